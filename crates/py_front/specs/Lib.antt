@@ -1,0 +1,4 @@
+pub mod TextLines
+pub mod SmallForms
+pub mod SmallText
+pub mod Answers

@@ -1,0 +1,9 @@
+//! From the bytes of a text to its module. The texts that are read so far are the small ones: the
+//! function `main` with straight-line statements over whole numbers.
+#![tactic(auto)]
+
+mod fault;
+mod reader;
+
+pub use fault::FrontFault;
+pub use reader::front;
