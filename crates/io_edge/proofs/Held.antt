@@ -1,5 +1,5 @@
 -- The search for the bytes under a name, among the files as code holds them.
-use Rattle.std.proofs.Common.{◌≡◌, ℕ, Bool, true, false, List, [], ◌∷◌, map, find, Option, Some, String, Vec, cond, refl, arith, bytes_eq, string_bytes}
+use Rattle.std.proofs.Common.{◌≡◌, ℕ, Bool, true, false, List, [], ◌∷◌, map, find, Some, String, Vec, cond, refl, arith, bytes_eq, string_bytes}
 use Rattle.std.specs.Option.{option_map}
 use Rattle.std.specs.declared.alloc.Global.{Global}
 use Rattle.io_edge.specs.Memory.{names_and_bytes}

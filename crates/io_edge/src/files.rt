@@ -29,13 +29,13 @@ pub trait Files {
         // Each answer in place of Ok, and when it comes.
         ensures too_long { IfSome (held self.old) (λ all.
             IsTooLong limit (held_at all name.now)
-                → ¬ IsErrOf result FileAnswer.Failed
-                → IsErrOf result FileAnswer.TooLong ⊎ IsErrOf result FileAnswer.OutOfMemory) }
+            → ¬ IsErrOf result FileAnswer.Failed
+            → IsErrOf result FileAnswer.TooLong ⊎ IsErrOf result FileAnswer.OutOfMemory) }
         ensures only_too_long { IsErrOf result FileAnswer.TooLong
             → IfSome (held self.old) (λ all. IsTooLong limit (held_at all name.now)) }
         ensures missing { IfSome (held self.old) (λ all.
             held_at all name.now ≡ None
-                → IsErrOf result FileAnswer.Failed ⊎ IsErrOf result FileAnswer.OutOfMemory) }
+            → IsErrOf result FileAnswer.Failed ⊎ IsErrOf result FileAnswer.OutOfMemory) }
 
         // What a failure changes, and that nothing else changes it.
         ensures counted { IsErrOf result FileAnswer.Failed → Rose (faults self.old) (faults self.new) }

@@ -68,13 +68,13 @@ impl Files for MemFiles {
             IfSome (⟦<MemFiles as Files>⟧.held self.old) (λ all. held_at all name.now ≡ Some bytes.items)) }
         ensures too_long { IfSome (⟦<MemFiles as Files>⟧.held self.old) (λ all.
             IsTooLong limit (held_at all name.now)
-                → ¬ IsErrOf result FileAnswer.Failed
-                → IsErrOf result FileAnswer.TooLong ⊎ IsErrOf result FileAnswer.OutOfMemory) }
+            → ¬ IsErrOf result FileAnswer.Failed
+            → IsErrOf result FileAnswer.TooLong ⊎ IsErrOf result FileAnswer.OutOfMemory) }
         ensures only_too_long { IsErrOf result FileAnswer.TooLong
             → IfSome (⟦<MemFiles as Files>⟧.held self.old) (λ all. IsTooLong limit (held_at all name.now)) }
         ensures missing { IfSome (⟦<MemFiles as Files>⟧.held self.old) (λ all.
             held_at all name.now ≡ None
-                → IsErrOf result FileAnswer.Failed ⊎ IsErrOf result FileAnswer.OutOfMemory) }
+            → IsErrOf result FileAnswer.Failed ⊎ IsErrOf result FileAnswer.OutOfMemory) }
         ensures counted { IsErrOf result FileAnswer.Failed
             → Rose (⟦<MemFiles as Files>⟧.faults self.old) (⟦<MemFiles as Files>⟧.faults self.new) }
         ensures named { IsErrOf result FileAnswer.Failed
@@ -93,7 +93,7 @@ impl Files for MemFiles {
             → IsErrOf result FileAnswer.Failed ⊎ IsErrOf result FileAnswer.OutOfMemory }
         ensures only_listed { IsErrOf result FileAnswer.Failed
             → Contains (failing_reads self.old) (reads self.old)
-                ⊎ IfSome (⟦<MemFiles as Files>⟧.held self.old) (λ all. held_at all name.now ≡ None) }
+            ⊎ IfSome (⟦<MemFiles as Files>⟧.held self.old) (λ all. held_at all name.now ≡ None) }
         ensures reads { reads self.new ≡ next_count (reads self.old) }
         ensures failing { failing_reads self.new ≡ failing_reads self.old }
     {

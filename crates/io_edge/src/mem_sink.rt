@@ -78,7 +78,7 @@ impl Sink for MemSink {
             → IsErrOf result SinkAnswer.Failed ⊎ IsErrOf result SinkAnswer.OutOfMemory }
         ensures only_listed { IsErrOf result SinkAnswer.Failed
             → IsSomeAnd (taken_at (failing_writes self.old) (writes self.old)) (λ n.
-                Appends (⟦<MemSink as Sink>⟧.written self.old) (⟦<MemSink as Sink>⟧.written self.new) (take n piece.now)) }
+            Appends (⟦<MemSink as Sink>⟧.written self.old) (⟦<MemSink as Sink>⟧.written self.new) (take n piece.now)) }
         ensures writes { writes self.new ≡ next_count (writes self.old) }
         ensures failing { failing_writes self.new ≡ failing_writes self.old }
     {
