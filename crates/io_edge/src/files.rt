@@ -38,10 +38,13 @@ pub trait Files {
             → IsErrOf result FileAnswer.Failed ⊎ IsErrOf result FileAnswer.OutOfMemory) }
 
         // What a failure changes, and that nothing else changes it.
-        ensures counted { IsErrOf result FileAnswer.Failed → Rose (faults self.old) (faults self.new) }
+        ensures counted { IsErrOf result FileAnswer.Failed
+            → Rose (faults self.old) (faults self.new) }
         ensures named { IsErrOf result FileAnswer.Failed → failed self.new ≡ Some name.now }
-        ensures not_counted { ¬ IsErrOf result FileAnswer.Failed → faults self.new ≡ faults self.old }
-        ensures not_named { ¬ IsErrOf result FileAnswer.Failed → failed self.new ≡ failed self.old }
+        ensures not_counted { ¬ IsErrOf result FileAnswer.Failed
+            → faults self.new ≡ faults self.old }
+        ensures not_named { ¬ IsErrOf result FileAnswer.Failed
+            → failed self.new ≡ failed self.old }
         ensures never_falls { faults self.old ≤ faults self.new }
 
         ensures held { held self.new ≡ held self.old }

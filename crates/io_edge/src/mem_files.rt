@@ -41,7 +41,8 @@ impl MemFiles {
     // The bytes that the read of this number finds, if it is not to fail.
     fn find(&self, call: u64, name: &str) -> Option<&[u8]>
         ensures none { IsNone result
-            ↔ (Contains self.now.failing.items call ⊎ (held_at (names_and_bytes self.now.files.items) name.now ≡ None)) }
+            ↔ (Contains self.now.failing.items call
+            ⊎ (held_at (names_and_bytes self.now.files.items) name.now ≡ None)) }
         ensures some { IfSome result (λ bytes.
             held_at (names_and_bytes self.now.files.items) name.now ≡ Some bytes.now) }
     {
@@ -65,13 +66,15 @@ impl Files for MemFiles {
         // Those of the trait.
         ensures fits { IfOk result (λ bytes. length bytes.items ≤ limit) }
         ensures bytes { IfOk result (λ bytes.
-            IfSome (⟦<MemFiles as Files>⟧.held self.old) (λ all. held_at all name.now ≡ Some bytes.items)) }
+            IfSome (⟦<MemFiles as Files>⟧.held self.old) (λ all.
+            held_at all name.now ≡ Some bytes.items)) }
         ensures too_long { IfSome (⟦<MemFiles as Files>⟧.held self.old) (λ all.
             IsTooLong limit (held_at all name.now)
             → ¬ IsErrOf result FileAnswer.Failed
             → IsErrOf result FileAnswer.TooLong ⊎ IsErrOf result FileAnswer.OutOfMemory) }
         ensures only_too_long { IsErrOf result FileAnswer.TooLong
-            → IfSome (⟦<MemFiles as Files>⟧.held self.old) (λ all. IsTooLong limit (held_at all name.now)) }
+            → IfSome (⟦<MemFiles as Files>⟧.held self.old) (λ all.
+            IsTooLong limit (held_at all name.now)) }
         ensures missing { IfSome (⟦<MemFiles as Files>⟧.held self.old) (λ all.
             held_at all name.now ≡ None
             → IsErrOf result FileAnswer.Failed ⊎ IsErrOf result FileAnswer.OutOfMemory) }
@@ -83,10 +86,12 @@ impl Files for MemFiles {
             → ⟦<MemFiles as Files>⟧.faults self.new ≡ ⟦<MemFiles as Files>⟧.faults self.old }
         ensures not_named { ¬ IsErrOf result FileAnswer.Failed
             → ⟦<MemFiles as Files>⟧.failed self.new ≡ ⟦<MemFiles as Files>⟧.failed self.old }
-        ensures never_falls { ⟦<MemFiles as Files>⟧.faults self.old ≤ ⟦<MemFiles as Files>⟧.faults self.new }
+        ensures never_falls { ⟦<MemFiles as Files>⟧.faults self.old
+            ≤ ⟦<MemFiles as Files>⟧.faults self.new }
         ensures held { ⟦<MemFiles as Files>⟧.held self.new ≡ ⟦<MemFiles as Files>⟧.held self.old }
         ensures late { ⟦<MemFiles as Files>⟧.late self.new
-            ≡ late_after (⟦<MemFiles as Files>⟧.faults self.old) (⟦<MemFiles as Files>⟧.late self.old) }
+            ≡ late_after (⟦<MemFiles as Files>⟧.faults self.old)
+            (⟦<MemFiles as Files>⟧.late self.old) }
 
         // A read fails exactly where its number is listed or its name isn't held. Each read counts.
         ensures listed { Contains (failing_reads self.old) (reads self.old)
@@ -124,7 +129,8 @@ fn bytes_named<'a>(files: &'a [(String, Vec<u8>)], name: &str) -> Option<&'a [u8
 
 // The first file of this name.
 fn first_named<'a>(files: &'a [(String, Vec<u8>)], name: &str) -> Option<&'a (String, Vec<u8>)>
-    ensures { option_copied result ≡ find (λ file. bytes_eq (string_bytes file.0) name.now) files.now }
+    ensures { option_copied result
+        ≡ find (λ file. bytes_eq (string_bytes file.0) name.now) files.now }
 {
     files.iter().find(|file| file.0.as_str() == name)
 }

@@ -62,23 +62,27 @@ impl Sink for MemSink {
     fn write(&mut self, piece: &[u8]) -> Result<(), SinkAnswer>
         // Those of the trait.
         ensures whole { OnOk result
-            (Appends (⟦<MemSink as Sink>⟧.written self.old) (⟦<MemSink as Sink>⟧.written self.new) piece.now) }
+            (Appends (⟦<MemSink as Sink>⟧.written self.old)
+            (⟦<MemSink as Sink>⟧.written self.new) piece.now) }
         ensures part { OnErr result
-            (AppendsPart (⟦<MemSink as Sink>⟧.written self.old) (⟦<MemSink as Sink>⟧.written self.new) piece.now) }
+            (AppendsPart (⟦<MemSink as Sink>⟧.written self.old)
+            (⟦<MemSink as Sink>⟧.written self.new) piece.now) }
         ensures counted { IsErrOf result SinkAnswer.Failed
             → Rose (⟦<MemSink as Sink>⟧.faults self.old) (⟦<MemSink as Sink>⟧.faults self.new) }
         ensures not_counted { ¬ IsErrOf result SinkAnswer.Failed
             → ⟦<MemSink as Sink>⟧.faults self.new ≡ ⟦<MemSink as Sink>⟧.faults self.old }
-        ensures never_falls { ⟦<MemSink as Sink>⟧.faults self.old ≤ ⟦<MemSink as Sink>⟧.faults self.new }
+        ensures never_falls { ⟦<MemSink as Sink>⟧.faults self.old
+            ≤ ⟦<MemSink as Sink>⟧.faults self.new }
         ensures late { ⟦<MemSink as Sink>⟧.late self.new
             ≡ late_after (⟦<MemSink as Sink>⟧.faults self.old) (⟦<MemSink as Sink>⟧.late self.old) }
 
-        // A write fails exactly where its number is listed, behind as many bytes. Each write counts.
+        // A write fails exactly where its number is listed, behind so many bytes. Each one counts.
         ensures listed { IsSome (taken_at (failing_writes self.old) (writes self.old))
             → IsErrOf result SinkAnswer.Failed ⊎ IsErrOf result SinkAnswer.OutOfMemory }
         ensures only_listed { IsErrOf result SinkAnswer.Failed
             → IsSomeAnd (taken_at (failing_writes self.old) (writes self.old)) (λ n.
-            Appends (⟦<MemSink as Sink>⟧.written self.old) (⟦<MemSink as Sink>⟧.written self.new) (take n piece.now)) }
+            Appends (⟦<MemSink as Sink>⟧.written self.old)
+            (⟦<MemSink as Sink>⟧.written self.new) (take n piece.now)) }
         ensures writes { writes self.new ≡ next_count (writes self.old) }
         ensures failing { failing_writes self.new ≡ failing_writes self.old }
     {

@@ -81,7 +81,8 @@ pub fn read_to_limit<R: Read>(
     ensures fits { IfOk result (λ bytes. length bytes.items ≤ limit) }
     ensures whole { IfOk result (λ bytes.
         IfSome (R.remaining reader.old) (λ all. bytes.items ≡ all)) }
-    ensures too_long { IsErrOf result FileAnswer.TooLong → IfSome (R.remaining reader.old) (λ all. limit < length all) }
+    ensures too_long { IsErrOf result FileAnswer.TooLong
+        → IfSome (R.remaining reader.old) (λ all. limit < length all) }
     ensures taken { ConsumesAtMost (R.remaining reader.old) (R.remaining reader.new) (limit + 1) }
 {
     let mut bytes = Vec::new(alloc);

@@ -23,8 +23,10 @@ pub trait Sink {
         ensures part { OnErr result (AppendsPart (written self.old) (written self.new) piece.now) }
 
         // What a failure changes, and that nothing else changes it.
-        ensures counted { IsErrOf result SinkAnswer.Failed → Rose (faults self.old) (faults self.new) }
-        ensures not_counted { ¬ IsErrOf result SinkAnswer.Failed → faults self.new ≡ faults self.old }
+        ensures counted { IsErrOf result SinkAnswer.Failed
+            → Rose (faults self.old) (faults self.new) }
+        ensures not_counted { ¬ IsErrOf result SinkAnswer.Failed
+            → faults self.new ≡ faults self.old }
         ensures never_falls { faults self.old ≤ faults self.new }
         ensures late { late self.new ≡ late_after (faults self.old) (late self.old) };
 }

@@ -42,16 +42,20 @@ impl Sink for SureSink {
     fn write(&mut self, piece: &[u8]) -> Result<(), SinkAnswer>
         // Those of the trait.
         ensures whole { OnOk result
-            (Appends (⟦<SureSink as Sink>⟧.written self.old) (⟦<SureSink as Sink>⟧.written self.new) piece.now) }
+            (Appends (⟦<SureSink as Sink>⟧.written self.old)
+            (⟦<SureSink as Sink>⟧.written self.new) piece.now) }
         ensures part { OnErr result
-            (AppendsPart (⟦<SureSink as Sink>⟧.written self.old) (⟦<SureSink as Sink>⟧.written self.new) piece.now) }
+            (AppendsPart (⟦<SureSink as Sink>⟧.written self.old)
+            (⟦<SureSink as Sink>⟧.written self.new) piece.now) }
         ensures counted { IsErrOf result SinkAnswer.Failed
             → Rose (⟦<SureSink as Sink>⟧.faults self.old) (⟦<SureSink as Sink>⟧.faults self.new) }
         ensures not_counted { ¬ IsErrOf result SinkAnswer.Failed
             → ⟦<SureSink as Sink>⟧.faults self.new ≡ ⟦<SureSink as Sink>⟧.faults self.old }
-        ensures never_falls { ⟦<SureSink as Sink>⟧.faults self.old ≤ ⟦<SureSink as Sink>⟧.faults self.new }
+        ensures never_falls { ⟦<SureSink as Sink>⟧.faults self.old
+            ≤ ⟦<SureSink as Sink>⟧.faults self.new }
         ensures late { ⟦<SureSink as Sink>⟧.late self.new
-            ≡ late_after (⟦<SureSink as Sink>⟧.faults self.old) (⟦<SureSink as Sink>⟧.late self.old) }
+            ≡ late_after (⟦<SureSink as Sink>⟧.faults self.old)
+            (⟦<SureSink as Sink>⟧.late self.old) }
 
         // No write fails.
         ensures faults { ⟦<SureSink as Sink>⟧.faults self.new ≡ 0 }
