@@ -10,7 +10,7 @@ pub fn one_more(count: u64) -> u64
 }
 
 /// The failures of one object: how many there were, and whether a call began after one.
-#[derive(Clone, Copy, Debug)]
+#[derive(Clone, Copy)]
 pub struct Faults {
     pub count: u64,
     pub late: bool,

@@ -1,7 +1,6 @@
 // Files that are read by name.
 ghost use Rattle.std.specs.Prelude.{◌≡◌, ◌≤◌, ◌⊎◌, ℕ, Bool, List, length, Option, Some, None, IfOk, IfSome, IsErrOf};
 ghost use Rattle.io_edge.specs.Outside.{Held, held_at, IsTooLong, Rose, late_after};
-ghost use Rattle.io_edge.specs.declared.answers.FileAnswer.{FileAnswer};
 
 use crate::FileAnswer;
 use std::alloc::Global;

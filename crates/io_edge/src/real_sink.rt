@@ -1,8 +1,7 @@
 // An output of the system.
-ghost use Rattle.std.specs.Prelude.{◌≡◌, false, OnOk, OnErr, IsErrOf, IsOkUnless};
+ghost use Rattle.std.specs.Prelude.{◌≡◌, false, OnOk, OnErr, IsOkUnless};
 ghost use Rattle.std.specs.Io.KnownBytes.{Appends};
 ghost use Rattle.io_edge.specs.Outside.{AppendsPart};
-ghost use Rattle.io_edge.specs.declared.answers.SinkAnswer.{SinkAnswer};
 
 use crate::count::Faults;
 use crate::{Sink, SinkAnswer};

@@ -2,7 +2,6 @@
 ghost use Rattle.std.specs.Prelude.{◌≡◌, ◌≤◌, ℕ, Bool, List, Option, OnOk, OnErr, IsErrOf};
 ghost use Rattle.std.specs.Io.KnownBytes.{Appends};
 ghost use Rattle.io_edge.specs.Outside.{AppendsPart, Rose, late_after};
-ghost use Rattle.io_edge.specs.declared.answers.SinkAnswer.{SinkAnswer};
 
 use crate::SinkAnswer;
 
