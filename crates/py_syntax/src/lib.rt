@@ -5,6 +5,7 @@
 #![tactic(auto)]
 
 mod assertion;
+mod copy;
 mod expr;
 mod module;
 mod stmt;

@@ -1,0 +1,4 @@
+// Equal copies.
+mod assertion;
+mod expr;
+mod stmt;
