@@ -1,4 +1,4 @@
-// Equal copies.
+// Equal copies, a file for each type that recurs.
 mod assertion;
 mod expr;
 mod stmt;

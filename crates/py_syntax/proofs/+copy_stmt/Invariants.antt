@@ -31,7 +31,7 @@ abbrev pub decreases-copy::stmt::copy_last : goal.decreases-copy::stmt::copy_las
 decreases-copy::stmt::copy_last l = 4 * last_size l.last.now + 2
 
 abbrev pub decreases-copy::stmt::copy_if : goal.decreases-copy::stmt::copy_if
-decreases-copy::stmt::copy_if l = 4 * max (block_size l.a.now) (block_size l.b.now) + 2
+decreases-copy::stmt::copy_if l = 4 * max (block_size l.then.now) (block_size l.other.now) + 2
 
 abbrev pub decreases-copy::stmt::copy_loop : goal.decreases-copy::stmt::copy_loop
 decreases-copy::stmt::copy_loop l = 4 * block_size l.body.now + 2

@@ -2,7 +2,7 @@
 ghost use Rattle.std.specs.Prelude.{◌≡◌, IfOk};
 
 use crate::assertion::{Assertion, AtomForm};
-use crate::copy::expr::{copy_list, copy_maybe};
+use crate::copy::expr::{copy_exprs, copy_optional};
 use crate::expr::Expr;
 use py_base::{OutOfMemory, Units};
 use sqlite_items::{Boxed, Items};
@@ -21,6 +21,27 @@ impl Assertion {
     }
 }
 
+impl AtomForm {
+    // An equal form. Each arm is one call without `?`: many of them in one match are much dearer to
+    // prove.
+    #[cycle(copy_assertion)]
+    fn copy(&self, alloc: Global) -> Result<AtomForm, OutOfMemory>
+        ensures { IfOk result (λ copy. copy ≡ self.now) }
+    {
+        match self {
+            Self::Both(all) => copy_assertions(alloc, all).map(Self::Both),
+            Self::When(condition, then) => copy_when(alloc, then, condition),
+            Self::AccOf(e, field, units) => copy_access(alloc, e, *field, *units),
+            Self::Holds(instance) => instance.copy(alloc).map(Self::Holds),
+            Self::Terminates(measure) => measure.copy(alloc).map(Self::Terminates),
+            Self::Releases(lock, measure) => copy_releases(alloc, lock, measure),
+            Self::Joins(thread, function, args) => copy_joins(alloc, thread, *function, args),
+            Self::WaitBelow(level) => level.copy(alloc).map(Self::WaitBelow),
+            Self::True(e) => e.copy(alloc).map(Self::True),
+        }
+    }
+}
+
 #[cycle(copy_assertion)]
 pub(crate) fn copy_assertions(
     alloc: Global,
@@ -35,51 +56,43 @@ pub(crate) fn copy_assertions(
     Ok(copy)
 }
 
-impl AtomForm {
-    #[cycle(copy_assertion)]
-    fn copy(&self, alloc: Global) -> Result<AtomForm, OutOfMemory>
-        ensures { IfOk result (λ copy. copy ≡ self.now) }
-    {
-        match self {
-            AtomForm::Both(all) => copy_assertions(alloc, all).map(AtomForm::Both),
-            AtomForm::When(e, a) => {
-                let a = a.get().copy(alloc)?;
-                make_when(alloc, e, a)
-            }
-            AtomForm::AccOf(e, f, units) => copy_acc(alloc, e, *f, *units),
-            AtomForm::Holds(i) => i.copy(alloc).map(AtomForm::Holds),
-            AtomForm::Terminates(e) => e.copy(alloc).map(AtomForm::Terminates),
-            AtomForm::Releases(e, level) => copy_releases(alloc, e, level),
-            AtomForm::Joins(e, f, all) => copy_joins(alloc, e, *f, all),
-            AtomForm::WaitBelow(e) => e.copy(alloc).map(AtomForm::WaitBelow),
-            AtomForm::True(e) => e.copy(alloc).map(AtomForm::True),
-        }
-    }
+#[cycle(copy_assertion)]
+fn copy_when(
+    alloc: Global,
+    then: &Boxed<Assertion>,
+    condition: &Expr,
+) -> Result<AtomForm, OutOfMemory>
+    ensures { IfOk result (λ copy. copy ≡ AtomForm.When condition.now then.now) }
+{
+    let then = Boxed::new(alloc, then.get().copy(alloc)?)?;
+    Ok(AtomForm::When(condition.copy(alloc)?, then))
 }
 
-fn make_when(alloc: Global, e: &Expr, a: Assertion) -> Result<AtomForm, OutOfMemory>
-    ensures { IfOk result (λ copy. copy ≡ AtomForm.When e.now a) }
+fn copy_access(alloc: Global, e: &Expr, field: u32, units: Units) -> Result<AtomForm, OutOfMemory>
+    ensures { IfOk result (λ copy. copy ≡ AtomForm.AccOf e.now field units) }
 {
-    let a = Boxed::new(alloc, a)?;
-    Ok(AtomForm::When(e.copy(alloc)?, a))
+    Ok(AtomForm::AccOf(e.copy(alloc)?, field, units))
 }
 
-fn copy_acc(alloc: Global, e: &Expr, f: u32, units: Units) -> Result<AtomForm, OutOfMemory>
-    ensures { IfOk result (λ copy. copy ≡ AtomForm.AccOf e.now f units) }
+fn copy_releases(
+    alloc: Global,
+    lock: &Expr,
+    measure: &Option<Expr>,
+) -> Result<AtomForm, OutOfMemory>
+    ensures { IfOk result (λ copy. copy ≡ AtomForm.Releases lock.now measure.now) }
 {
-    Ok(AtomForm::AccOf(e.copy(alloc)?, f, units))
+    let lock = lock.copy(alloc)?;
+    Ok(AtomForm::Releases(lock, copy_optional(alloc, measure)?))
 }
 
-fn copy_releases(alloc: Global, e: &Expr, level: &Option<Expr>) -> Result<AtomForm, OutOfMemory>
-    ensures { IfOk result (λ copy. copy ≡ AtomForm.Releases e.now level.now) }
+fn copy_joins(
+    alloc: Global,
+    thread: &Expr,
+    function: u32,
+    args: &Items<Expr>,
+) -> Result<AtomForm, OutOfMemory>
+    ensures { IfOk result (λ copy. copy ≡ AtomForm.Joins thread.now function args.now) }
 {
-    let e = e.copy(alloc)?;
-    Ok(AtomForm::Releases(e, copy_maybe(alloc, level)?))
-}
-
-fn copy_joins(alloc: Global, e: &Expr, f: u32, all: &Items<Expr>) -> Result<AtomForm, OutOfMemory>
-    ensures { IfOk result (λ copy. copy ≡ AtomForm.Joins e.now f all.now) }
-{
-    let all = copy_list(alloc, all)?;
-    Ok(AtomForm::Joins(e.copy(alloc)?, f, all))
+    let thread = thread.copy(alloc)?;
+    Ok(AtomForm::Joins(thread, function, copy_exprs(alloc, args)?))
 }

@@ -3,7 +3,7 @@ ghost use Rattle.std.specs.Prelude.{◌≡◌, IfOk};
 
 use crate::assertion::Assertion;
 use crate::copy::assertion::copy_assertions;
-use crate::copy::expr::{copy_list, copy_maybe};
+use crate::copy::expr::{copy_exprs, copy_optional};
 use crate::expr::Expr;
 use crate::stmt::{PrintArg, Stmt, StmtForm};
 use py_base::OutOfMemory;
@@ -24,37 +24,48 @@ impl Stmt {
 }
 
 impl StmtForm {
+    // An equal form. Each arm is one call without `?`, as for assertions.
     #[cycle(copy_stmt)]
     fn copy(&self, alloc: Global) -> Result<StmtForm, OutOfMemory>
         ensures { IfOk result (λ copy. copy ≡ self.now) }
     {
         match self {
-            StmtForm::Pass => Ok(StmtForm::Pass),
-            StmtForm::Store(n, e) => copy_store(alloc, *n, e),
-            StmtForm::Write(o, f, e) => copy_write(alloc, o, *f, e),
-            StmtForm::AugStore(n, op, e) => copy_aug_store(alloc, *n, *op, e),
-            StmtForm::AugWrite(o, f, op, e) => copy_aug_write(alloc, o, *f, *op, e),
-            StmtForm::Drop(e) => e.copy(alloc).map(StmtForm::Drop),
-            StmtForm::Print(args) => copy_args(alloc, args).map(StmtForm::Print),
-            StmtForm::Check(e) => e.copy(alloc).map(StmtForm::Check),
-            StmtForm::Prove(a) => a.copy(alloc).map(StmtForm::Prove),
-            StmtForm::Fold(i) => i.copy(alloc).map(StmtForm::Fold),
-            StmtForm::Unfold(i) => i.copy(alloc).map(StmtForm::Unfold),
-            StmtForm::If(e, a, b) => copy_if(alloc, e, a, b),
-            StmtForm::Loop(all, e, body) => copy_loop(alloc, all, e, body),
-            StmtForm::Break => Ok(StmtForm::Break),
-            StmtForm::Continue => Ok(StmtForm::Continue),
-            StmtForm::Try(body, handlers, other, last) => {
-                copy_try(alloc, body, handlers, other, last)
-            }
-            StmtForm::With(e, body) => copy_with(alloc, e, body),
-            StmtForm::Raise(c) => Ok(StmtForm::Raise(*c)),
-            StmtForm::Return(e) => copy_maybe(alloc, e).map(StmtForm::Return),
-            StmtForm::Super(all) => copy_list(alloc, all).map(StmtForm::Super),
-            StmtForm::Acquire(e) => e.copy(alloc).map(StmtForm::Acquire),
-            StmtForm::Release(e) => e.copy(alloc).map(StmtForm::Release),
-            StmtForm::Start(e, f) => copy_start(alloc, e, *f),
-            StmtForm::Join(e, f) => copy_join(alloc, e, *f),
+            Self::Pass => Ok(Self::Pass),
+            Self::Store(local, e) => copy_store(alloc, *local, e),
+            Self::Write(object, field, e) => copy_write(alloc, object, *field, e),
+            Self::AugStore(local, op, e) => copy_aug_store(alloc, *local, *op, e),
+            Self::AugWrite(object, field, op, e) => copy_aug_write(alloc, object, *field, *op, e),
+            Self::Drop(e) => e.copy(alloc).map(Self::Drop),
+            Self::Print(args) => copy_print_args(alloc, args).map(Self::Print),
+            Self::Check(e) => e.copy(alloc).map(Self::Check),
+            Self::Prove(a) => a.copy(alloc).map(Self::Prove),
+            Self::Fold(instance) => instance.copy(alloc).map(Self::Fold),
+            Self::Unfold(instance) => instance.copy(alloc).map(Self::Unfold),
+            Self::If(e, then, other) => copy_if(alloc, e, then, other),
+            Self::Loop(invariant, e, body) => copy_loop(alloc, invariant, e, body),
+            Self::Break => Ok(Self::Break),
+            Self::Continue => Ok(Self::Continue),
+            Self::Try(body, handlers, other, last) => copy_try(alloc, body, handlers, other, last),
+            Self::With(lock, body) => copy_with(alloc, lock, body),
+            Self::Raise(class) => Ok(Self::Raise(*class)),
+            Self::Return(e) => copy_optional(alloc, e).map(Self::Return),
+            Self::Super(args) => copy_exprs(alloc, args).map(Self::Super),
+            Self::Acquire(lock) => lock.copy(alloc).map(Self::Acquire),
+            Self::Release(lock) => lock.copy(alloc).map(Self::Release),
+            Self::Start(thread, function) => copy_start(alloc, thread, *function),
+            Self::Join(thread, function) => copy_join(alloc, thread, *function),
+        }
+    }
+}
+
+impl PrintArg {
+    /// An equal argument.
+    pub fn copy(&self, alloc: Global) -> Result<PrintArg, OutOfMemory>
+        ensures { IfOk result (λ copy. copy ≡ self.now) }
+    {
+        match self {
+            Self::Value(e) => e.copy(alloc).map(Self::Value),
+            Self::Literal(text) => text.copy(alloc).map(Self::Literal),
         }
     }
 }
@@ -73,37 +84,37 @@ fn copy_block(alloc: Global, block: &Items<Stmt>) -> Result<Items<Stmt>, OutOfMe
 #[cycle(copy_stmt)]
 fn copy_if(
     alloc: Global,
-    e: &Expr,
-    a: &Items<Stmt>,
-    b: &Items<Stmt>,
+    condition: &Expr,
+    then: &Items<Stmt>,
+    other: &Items<Stmt>,
 ) -> Result<StmtForm, OutOfMemory>
-    ensures { IfOk result (λ copy. copy ≡ StmtForm.If e.now a.now b.now) }
+    ensures { IfOk result (λ copy. copy ≡ StmtForm.If condition.now then.now other.now) }
 {
-    let e = e.copy(alloc)?;
-    let a = copy_block(alloc, a)?;
-    Ok(StmtForm::If(e, a, copy_block(alloc, b)?))
+    let condition = condition.copy(alloc)?;
+    let then = copy_block(alloc, then)?;
+    Ok(StmtForm::If(condition, then, copy_block(alloc, other)?))
 }
 
 #[cycle(copy_stmt)]
 fn copy_loop(
     alloc: Global,
-    all: &Items<Assertion>,
-    e: &Expr,
+    invariant: &Items<Assertion>,
+    condition: &Expr,
     body: &Items<Stmt>,
 ) -> Result<StmtForm, OutOfMemory>
-    ensures { IfOk result (λ copy. copy ≡ StmtForm.Loop all.now e.now body.now) }
+    ensures { IfOk result (λ copy. copy ≡ StmtForm.Loop invariant.now condition.now body.now) }
 {
-    let all = copy_assertions(alloc, all)?;
-    let e = e.copy(alloc)?;
-    Ok(StmtForm::Loop(all, e, copy_block(alloc, body)?))
+    let invariant = copy_assertions(alloc, invariant)?;
+    let condition = condition.copy(alloc)?;
+    Ok(StmtForm::Loop(invariant, condition, copy_block(alloc, body)?))
 }
 
 #[cycle(copy_stmt)]
-fn copy_with(alloc: Global, e: &Expr, body: &Items<Stmt>) -> Result<StmtForm, OutOfMemory>
-    ensures { IfOk result (λ copy. copy ≡ StmtForm.With e.now body.now) }
+fn copy_with(alloc: Global, lock: &Expr, body: &Items<Stmt>) -> Result<StmtForm, OutOfMemory>
+    ensures { IfOk result (λ copy. copy ≡ StmtForm.With lock.now body.now) }
 {
-    let e = e.copy(alloc)?;
-    Ok(StmtForm::With(e, copy_block(alloc, body)?))
+    let lock = lock.copy(alloc)?;
+    Ok(StmtForm::With(lock, copy_block(alloc, body)?))
 }
 
 #[cycle(copy_stmt)]
@@ -142,67 +153,55 @@ fn copy_last(alloc: Global, last: &Option<Items<Stmt>>) -> Result<Option<Items<S
 {
     match last {
         None => Ok(None),
-        Some(block) => Ok(Some(copy_block(alloc, block)?)),
+        Some(block) => copy_block(alloc, block).map(Some),
     }
 }
 
-fn copy_store(alloc: Global, n: u32, e: &Expr) -> Result<StmtForm, OutOfMemory>
-    ensures { IfOk result (λ copy. copy ≡ StmtForm.Store n e.now) }
+fn copy_store(alloc: Global, local: u32, e: &Expr) -> Result<StmtForm, OutOfMemory>
+    ensures { IfOk result (λ copy. copy ≡ StmtForm.Store local e.now) }
 {
-    Ok(StmtForm::Store(n, e.copy(alloc)?))
+    Ok(StmtForm::Store(local, e.copy(alloc)?))
 }
 
-fn copy_write(alloc: Global, o: &Expr, f: u32, e: &Expr) -> Result<StmtForm, OutOfMemory>
-    ensures { IfOk result (λ copy. copy ≡ StmtForm.Write o.now f e.now) }
+fn copy_write(alloc: Global, object: &Expr, field: u32, e: &Expr) -> Result<StmtForm, OutOfMemory>
+    ensures { IfOk result (λ copy. copy ≡ StmtForm.Write object.now field e.now) }
 {
-    let o = o.copy(alloc)?;
-    Ok(StmtForm::Write(o, f, e.copy(alloc)?))
+    let object = object.copy(alloc)?;
+    Ok(StmtForm::Write(object, field, e.copy(alloc)?))
 }
 
-fn copy_aug_store(alloc: Global, n: u32, op: u16, e: &Expr) -> Result<StmtForm, OutOfMemory>
-    ensures { IfOk result (λ copy. copy ≡ StmtForm.AugStore n op e.now) }
+fn copy_aug_store(alloc: Global, local: u32, op: u16, e: &Expr) -> Result<StmtForm, OutOfMemory>
+    ensures { IfOk result (λ copy. copy ≡ StmtForm.AugStore local op e.now) }
 {
-    Ok(StmtForm::AugStore(n, op, e.copy(alloc)?))
+    Ok(StmtForm::AugStore(local, op, e.copy(alloc)?))
 }
 
 fn copy_aug_write(
     alloc: Global,
-    o: &Expr,
-    f: u32,
+    object: &Expr,
+    field: u32,
     op: u16,
     e: &Expr,
 ) -> Result<StmtForm, OutOfMemory>
-    ensures { IfOk result (λ copy. copy ≡ StmtForm.AugWrite o.now f op e.now) }
+    ensures { IfOk result (λ copy. copy ≡ StmtForm.AugWrite object.now field op e.now) }
 {
-    let o = o.copy(alloc)?;
-    Ok(StmtForm::AugWrite(o, f, op, e.copy(alloc)?))
+    let object = object.copy(alloc)?;
+    Ok(StmtForm::AugWrite(object, field, op, e.copy(alloc)?))
 }
 
-fn copy_start(alloc: Global, e: &Expr, f: u32) -> Result<StmtForm, OutOfMemory>
-    ensures { IfOk result (λ copy. copy ≡ StmtForm.Start e.now f) }
+fn copy_start(alloc: Global, thread: &Expr, function: u32) -> Result<StmtForm, OutOfMemory>
+    ensures { IfOk result (λ copy. copy ≡ StmtForm.Start thread.now function) }
 {
-    Ok(StmtForm::Start(e.copy(alloc)?, f))
+    Ok(StmtForm::Start(thread.copy(alloc)?, function))
 }
 
-fn copy_join(alloc: Global, e: &Expr, f: u32) -> Result<StmtForm, OutOfMemory>
-    ensures { IfOk result (λ copy. copy ≡ StmtForm.Join e.now f) }
+fn copy_join(alloc: Global, thread: &Expr, function: u32) -> Result<StmtForm, OutOfMemory>
+    ensures { IfOk result (λ copy. copy ≡ StmtForm.Join thread.now function) }
 {
-    Ok(StmtForm::Join(e.copy(alloc)?, f))
+    Ok(StmtForm::Join(thread.copy(alloc)?, function))
 }
 
-impl PrintArg {
-    /// An equal argument.
-    pub fn copy(&self, alloc: Global) -> Result<PrintArg, OutOfMemory>
-        ensures { IfOk result (λ copy. copy ≡ self.now) }
-    {
-        match self {
-            PrintArg::Value(e) => e.copy(alloc).map(PrintArg::Value),
-            PrintArg::Literal(text) => text.copy(alloc).map(PrintArg::Literal),
-        }
-    }
-}
-
-fn copy_args(alloc: Global, args: &Items<PrintArg>) -> Result<Items<PrintArg>, OutOfMemory>
+fn copy_print_args(alloc: Global, args: &Items<PrintArg>) -> Result<Items<PrintArg>, OutOfMemory>
     ensures { IfOk result (λ copy. copy ≡ args.now) }
 {
     let mut copy = Items::new(alloc);
