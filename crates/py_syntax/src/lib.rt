@@ -14,7 +14,7 @@ mod ty;
 pub use assertion::{Assertion, AtomForm};
 pub use expr::{Expr, ExprForm, Instance};
 pub use module::{Class, ClassSort, Field, Method, Module, Pred};
-pub use stmt::{PrintArg, Stmt, StmtForm};
+pub use stmt::{FieldName, Operator, PrintArg, Stmt, StmtForm};
 pub use ty::Ty;
 
 #[cfg(test)]

@@ -13,7 +13,22 @@ pub enum PrintArg {
     Literal(Text),
 }
 
-/// A statement. Its place is its first token.
+/// The name of a field, and where it stands behind the dot.
+#[derive(Clone, Copy, Debug, PartialEq, Eq)]
+pub struct FieldName {
+    pub place: Place,
+    pub name: u32,
+}
+
+/// An operator by its key, and where its mark stands.
+#[derive(Clone, Copy, Debug, PartialEq, Eq)]
+pub struct Operator {
+    pub place: Place,
+    pub key: u16,
+}
+
+/// A statement. Its place is its first token. The place in a form that is a call is the name that is
+/// called.
 #[cycle(stmt)]
 #[derive(Debug, Drop)]
 pub struct Stmt {
@@ -21,7 +36,7 @@ pub struct Stmt {
     pub form: StmtForm,
 }
 
-/// The forms of statements. Operators go by their keys, as in `ExprForm`.
+/// The forms of statements.
 #[cycle(stmt)]
 #[derive(Debug, Drop)]
 pub enum StmtForm {
@@ -29,12 +44,12 @@ pub enum StmtForm {
     Pass,
     /// An assignment to a local.
     Store(u32, Expr),
-    /// An assignment to an object's field of this name.
-    Write(Expr, u32, Expr),
+    /// An assignment to the field of an object.
+    Write(Expr, FieldName, Expr),
     /// An augmented assignment to a local.
-    AugStore(u32, u16, Expr),
-    /// An augmented assignment to an object's field of this name.
-    AugWrite(Expr, u32, u16, Expr),
+    AugStore(u32, Operator, Expr),
+    /// An augmented assignment to the field of an object.
+    AugWrite(Expr, FieldName, Operator, Expr),
     /// A call whose result is dropped.
     Drop(Expr),
     /// `print`
@@ -64,13 +79,13 @@ pub enum StmtForm {
     /// `return`
     Return(Option<Expr>),
     /// `super().__init__` with its arguments.
-    Super(Items<Expr>),
+    Super(Place, Items<Expr>),
     /// `acquire` of a lock.
-    Acquire(Expr),
+    Acquire(Place, Expr),
     /// `release` of a lock.
-    Release(Expr),
+    Release(Place, Expr),
     /// `start` of a thread with its function.
-    Start(Expr, u32),
+    Start(Place, Expr, u32),
     /// `join` of a thread with its function.
-    Join(Expr, u32),
+    Join(Place, Expr, u32),
 }

@@ -5,8 +5,8 @@ use crate::assertion::Assertion;
 use crate::copy::assertion::copy_assertions;
 use crate::copy::expr::{copy_exprs, copy_optional};
 use crate::expr::Expr;
-use crate::stmt::{PrintArg, Stmt, StmtForm};
-use py_base::OutOfMemory;
+use crate::stmt::{FieldName, Operator, PrintArg, Stmt, StmtForm};
+use py_base::{OutOfMemory, Place};
 use sqlite_items::Items;
 use std::alloc::Global;
 
@@ -33,8 +33,10 @@ impl StmtForm {
             Self::Pass => Ok(Self::Pass),
             Self::Store(local, e) => copy_store(alloc, *local, e),
             Self::Write(object, field, e) => copy_write(alloc, object, *field, e),
-            Self::AugStore(local, op, e) => copy_aug_store(alloc, *local, *op, e),
-            Self::AugWrite(object, field, op, e) => copy_aug_write(alloc, object, *field, *op, e),
+            Self::AugStore(local, operator, e) => copy_aug_store(alloc, *local, *operator, e),
+            Self::AugWrite(object, field, operator, e) => {
+                copy_aug_write(alloc, object, *field, *operator, e)
+            }
             Self::Drop(e) => e.copy(alloc).map(Self::Drop),
             Self::Print(args) => copy_print_args(alloc, args).map(Self::Print),
             Self::Check(e) => e.copy(alloc).map(Self::Check),
@@ -49,11 +51,11 @@ impl StmtForm {
             Self::With(lock, body) => copy_with(alloc, lock, body),
             Self::Raise(class) => Ok(Self::Raise(*class)),
             Self::Return(e) => copy_optional(alloc, e).map(Self::Return),
-            Self::Super(args) => copy_exprs(alloc, args).map(Self::Super),
-            Self::Acquire(lock) => lock.copy(alloc).map(Self::Acquire),
-            Self::Release(lock) => lock.copy(alloc).map(Self::Release),
-            Self::Start(thread, function) => copy_start(alloc, thread, *function),
-            Self::Join(thread, function) => copy_join(alloc, thread, *function),
+            Self::Super(place, args) => copy_super(alloc, *place, args),
+            Self::Acquire(place, lock) => copy_acquire(alloc, *place, lock),
+            Self::Release(place, lock) => copy_release(alloc, *place, lock),
+            Self::Start(place, thread, function) => copy_start(alloc, *place, thread, *function),
+            Self::Join(place, thread, function) => copy_join(alloc, *place, thread, *function),
         }
     }
 }
@@ -163,42 +165,80 @@ fn copy_store(alloc: Global, local: u32, e: &Expr) -> Result<StmtForm, OutOfMemo
     Ok(StmtForm::Store(local, e.copy(alloc)?))
 }
 
-fn copy_write(alloc: Global, object: &Expr, field: u32, e: &Expr) -> Result<StmtForm, OutOfMemory>
+fn copy_write(
+    alloc: Global,
+    object: &Expr,
+    field: FieldName,
+    e: &Expr,
+) -> Result<StmtForm, OutOfMemory>
     ensures { IfOk result (λ copy. copy ≡ StmtForm.Write object.now field e.now) }
 {
     let object = object.copy(alloc)?;
     Ok(StmtForm::Write(object, field, e.copy(alloc)?))
 }
 
-fn copy_aug_store(alloc: Global, local: u32, op: u16, e: &Expr) -> Result<StmtForm, OutOfMemory>
-    ensures { IfOk result (λ copy. copy ≡ StmtForm.AugStore local op e.now) }
+fn copy_aug_store(
+    alloc: Global,
+    local: u32,
+    operator: Operator,
+    e: &Expr,
+) -> Result<StmtForm, OutOfMemory>
+    ensures { IfOk result (λ copy. copy ≡ StmtForm.AugStore local operator e.now) }
 {
-    Ok(StmtForm::AugStore(local, op, e.copy(alloc)?))
+    Ok(StmtForm::AugStore(local, operator, e.copy(alloc)?))
 }
 
 fn copy_aug_write(
     alloc: Global,
     object: &Expr,
-    field: u32,
-    op: u16,
+    field: FieldName,
+    operator: Operator,
     e: &Expr,
 ) -> Result<StmtForm, OutOfMemory>
-    ensures { IfOk result (λ copy. copy ≡ StmtForm.AugWrite object.now field op e.now) }
+    ensures { IfOk result (λ copy. copy ≡ StmtForm.AugWrite object.now field operator e.now) }
 {
     let object = object.copy(alloc)?;
-    Ok(StmtForm::AugWrite(object, field, op, e.copy(alloc)?))
+    Ok(StmtForm::AugWrite(object, field, operator, e.copy(alloc)?))
 }
 
-fn copy_start(alloc: Global, thread: &Expr, function: u32) -> Result<StmtForm, OutOfMemory>
-    ensures { IfOk result (λ copy. copy ≡ StmtForm.Start thread.now function) }
+fn copy_super(alloc: Global, place: Place, args: &Items<Expr>) -> Result<StmtForm, OutOfMemory>
+    ensures { IfOk result (λ copy. copy ≡ StmtForm.Super place args.now) }
 {
-    Ok(StmtForm::Start(thread.copy(alloc)?, function))
+    Ok(StmtForm::Super(place, copy_exprs(alloc, args)?))
 }
 
-fn copy_join(alloc: Global, thread: &Expr, function: u32) -> Result<StmtForm, OutOfMemory>
-    ensures { IfOk result (λ copy. copy ≡ StmtForm.Join thread.now function) }
+fn copy_acquire(alloc: Global, place: Place, lock: &Expr) -> Result<StmtForm, OutOfMemory>
+    ensures { IfOk result (λ copy. copy ≡ StmtForm.Acquire place lock.now) }
 {
-    Ok(StmtForm::Join(thread.copy(alloc)?, function))
+    Ok(StmtForm::Acquire(place, lock.copy(alloc)?))
+}
+
+fn copy_release(alloc: Global, place: Place, lock: &Expr) -> Result<StmtForm, OutOfMemory>
+    ensures { IfOk result (λ copy. copy ≡ StmtForm.Release place lock.now) }
+{
+    Ok(StmtForm::Release(place, lock.copy(alloc)?))
+}
+
+fn copy_start(
+    alloc: Global,
+    place: Place,
+    thread: &Expr,
+    function: u32,
+) -> Result<StmtForm, OutOfMemory>
+    ensures { IfOk result (λ copy. copy ≡ StmtForm.Start place thread.now function) }
+{
+    Ok(StmtForm::Start(place, thread.copy(alloc)?, function))
+}
+
+fn copy_join(
+    alloc: Global,
+    place: Place,
+    thread: &Expr,
+    function: u32,
+) -> Result<StmtForm, OutOfMemory>
+    ensures { IfOk result (λ copy. copy ≡ StmtForm.Join place thread.now function) }
+{
+    Ok(StmtForm::Join(place, thread.copy(alloc)?, function))
 }
 
 fn copy_print_args(alloc: Global, args: &Items<PrintArg>) -> Result<Items<PrintArg>, OutOfMemory>
