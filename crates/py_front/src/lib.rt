@@ -2,8 +2,13 @@
 //! function `main` with straight-line statements over whole numbers.
 #![tactic(auto)]
 
+mod cuts;
 mod fault;
+mod forms;
+mod lines;
 mod reader;
+mod small_module;
+mod words;
 
 pub use fault::FrontFault;
 pub use reader::front;

@@ -1,0 +1,4 @@
+pub mod Numbers
+pub mod FirstLine
+pub mod Pieces
+pub mod Reserved
