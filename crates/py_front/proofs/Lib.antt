@@ -1,4 +1,6 @@
 pub mod Numbers
 pub mod FirstLine
 pub mod Pieces
-pub mod Reserved
+pub mod Positions
+pub mod Found
+pub mod Again

@@ -1,5 +1,5 @@
 // Reads the parts of a line.
-ghost use Rattle.std.specs.Prelude.{◌≡◌, ◌≤◌, ◌<◌, ◌+◌, ◌^◌, [], ◌∷◌, length, IfOk};
+ghost use Rattle.std.specs.Prelude.{◌≡◌, ◌≤◌, ◌<◌, ◌+◌, ◌^◌, [], ◌∷◌, length, IfOk, OnOk};
 ghost use Rattle.std.specs.Option.{option_map};
 ghost use Rattle.py_front.specs.SmallForms.{number_at, local_at, sum_at, equation_at};
 ghost use Rattle.py_front.specs.Reading.{further, operand_of, sum_of, expr_of, check_of, print_of, store_of, form_of};
@@ -200,7 +200,8 @@ fn store_of(
 ) -> Result<Option<StmtForm>, OutOfMemory>
     requires few { length names.old.items ≤ 60 }
     requires room { 5 + length bytes.now < 2 ^ 32 }
-    ensures { IfOk result (λ read. option_map (λ form. (form, names.new.items)) read ≡ store_of names.old.items line bytes.now) }
+    ensures form { IfOk result (λ read. option_map (λ form. (form, names.new.items)) read ≡ store_of names.old.items line bytes.now) }
+    ensures more { OnOk result (length names.new.items ≤ length names.old.items + 1) }
 {
     let Some((name, rest)) = cut_at(b' ', bytes) else {
         return Ok(None);
@@ -230,7 +231,8 @@ pub fn form_of(
 ) -> Result<Option<StmtForm>, OutOfMemory>
     requires few { length names.old.items ≤ 60 }
     requires room { 1 + length bytes.now < 2 ^ 32 }
-    ensures { IfOk result (λ read. option_map (λ form. (form, names.new.items)) read ≡ form_of names.old.items line bytes.now) }
+    ensures form { IfOk result (λ read. option_map (λ form. (form, names.new.items)) read ≡ form_of names.old.items line bytes.now) }
+    ensures more { OnOk result (length names.new.items ≤ length names.old.items + 1) }
 {
     let Some(rest) = behind(b"    ", bytes) else {
         return Ok(None);

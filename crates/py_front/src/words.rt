@@ -1,7 +1,7 @@
 // Numbers and names, and the numbers of names.
-ghost use Rattle.std.specs.Prelude.{◌≡◌, ◌≤◌, true, length, take, drop, bytes_eq, OnOk};
+ghost use Rattle.std.specs.Prelude.{◌≡◌, ◌≤◌, ◌<◌, ◌+◌, true, length, bytes_eq, position, IfSome, OnOk};
 ghost use Rattle.std.specs.List.{list_all, list_any, position_or_len};
-ghost use Rattle.py_front.specs.SmallForms.{is_digit, is_letter, is_number, number_value, reserved_words, is_reserved, is_name, is_known, local_number, with_name};
+ghost use Rattle.py_front.specs.SmallForms.{is_digit, is_letter, is_number, number_value, is_reserved, is_name, is_known, local_number, with_name};
 
 use py_base::{OutOfMemory, Text};
 use std::alloc::Global;
@@ -94,16 +94,20 @@ pub fn is_known(names: &[Text], name: &[u8]) -> bool
     names.iter().any(|known| name == known.bytes())
 }
 
+fn position_of(names: &[Text], name: &[u8]) -> Option<usize>
+    ensures at { result ≡ position (bytes_eq name.now) names.now }
+    ensures within { IfSome result (λ at. at < length names.now) }
+{
+    names.iter().position(|known| name == known.bytes())
+}
+
 // The place of the name among these, or behind the last.
-#[tactic(auto, using(crate::proofs::Reserved::position_is))]
+#[tactic(auto, using(crate::proofs::Positions::position_is))]
 fn place_among(names: &[Text], name: &[u8]) -> usize
     ensures at { result ≡ position_or_len (bytes_eq name.now) names.now }
     ensures within { result ≤ length names.now }
 {
-    names
-        .iter()
-        .position(|known| name == known.bytes())
-        .unwrap_or(names.len())
+    position_of(names, name).unwrap_or(names.len())
 }
 
 /// The number of a local, which is that of the next one where the name is new.
@@ -117,7 +121,8 @@ pub fn local_number(names: &[Text], name: &[u8]) -> u32
 
 /// Adds the name where it is new.
 pub fn add_name(alloc: Global, names: &mut Vec<Text>, name: &[u8]) -> Result<(), OutOfMemory>
-    ensures { OnOk result (names.new.items ≡ with_name names.old.items name.now) }
+    ensures names { OnOk result (names.new.items ≡ with_name names.old.items name.now) }
+    ensures more { OnOk result (length names.new.items ≤ length names.old.items + 1) }
 {
     if is_known(names, name) {
         return Ok(());
