@@ -4,3 +4,6 @@ pub mod Pieces
 pub mod Positions
 pub mod Found
 pub mod Again
+pub mod Body
+pub mod Ends
+pub mod Faults

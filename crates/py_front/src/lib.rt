@@ -5,10 +5,12 @@
 mod cuts;
 mod fault;
 mod forms;
+mod laws;
 mod lines;
 mod reader;
 mod small_module;
 mod words;
 
 pub use fault::FrontFault;
+pub use laws::a_text_has_one_answer;
 pub use reader::front;
