@@ -15,7 +15,7 @@ use Rattle.py_syntax.specs.declared.StmtForm.{StmtForm}
 use Rattle.py_syntax.specs.declared.StmtForm.TheVariants.{Pass, Store, Check, Print}
 use Rattle.py_front.specs.SmallForms.{is_digit, is_letter, is_number, number_value, is_name, is_known, is_reserved, local_number, with_name, place_at, number_at, local_at, sum_at, equation_at, stmt_at, SpellsOperand, spells_number, spells_local, SpellsSum, SpellsExpr, spells_operand, spells_plus, spells_minus, SpellsStmt, spells_pass, spells_store, spells_check, spells_print}
 use Rattle.py_front.specs.Reading.{◌>>=◌, behind, ahead_of, cut_at, further, operand_of, sum_of, expr_of, check_of, print_of, store_of, form_of}
-use Rattle.py_front.proofs.Pieces.{bind_is, either_is, either_none, map_is, test_true, test_false, behind_some}
+use Rattle.py_front.proofs.Pieces.{bind_is, either_is, either_none, map_is, test_true, test_false, behind_some, regrouped}
 
 pub same_bytes : (xs : List ℕ) → bytes_eq xs xs ≡ true
 same_bytes xs = (bytes_eq-Decides xs xs).1 refl
@@ -273,12 +273,10 @@ pub form_same : (names : List (List ℕ)) (n : ℕ) (line : List ℕ) (s : Stmt)
 form_same names n line s after (spells_pass whole stands same) = record { form = Pass; stands = stands; read = ap (λ t. form_of names n t) whole ∙ pass_line names n ∙ ap (λ t. Some (Pass, t)) (sym same) }
 form_same names n line s after (spells_store name x e whole is spelled stands same) =
     let form : StmtForm = Store (local_number names name) e in
-    let tail : codes "    " ++ name ++ codes " = " ++ x ≡ codes "    " ++ (name ++ codes " = " ++ x) = ap (λ t. t ++ x) (append_assoc (codes "    ") name (codes " = ")) ∙ append_assoc (codes "    ") (name ++ codes " = ") x in
-    record { form = form; stands = stands; read = ap (λ t. form_of names n t) (whole ∙ tail) ∙ store_line names n name x (form, with_name names name) is (store_same names n name x e is spelled) ∙ ap (λ t. Some (form, t)) (sym same) }
+    record { form = form; stands = stands; read = ap (λ t. form_of names n t) (whole ∙ sym (regrouped (codes "    ") name (codes " = ") x)) ∙ store_line names n name x (form, with_name names name) is (store_same names n name x e is spelled) ∙ ap (λ t. Some (form, t)) (sym same) }
 form_same names n line s after (spells_check x y a b whole left right stands same) =
     let form : StmtForm = Check (equation_at (place_at n (12 + length x + 1)) a b) in
-    let tail : codes "    assert " ++ x ++ codes " == " ++ y ≡ codes "    assert " ++ (x ++ codes " == " ++ y) = ap (λ t. t ++ y) (append_assoc (codes "    assert ") x (codes " == ")) ∙ append_assoc (codes "    assert ") (x ++ codes " == ") y in
-    record { form = form; stands = stands; read = ap (λ t. form_of names n t) (whole ∙ tail) ∙ check_line names n (x ++ codes " == " ++ y) form (check_same names n x y a b left right) ∙ ap (λ t. Some (form, t)) (sym same) }
+    record { form = form; stands = stands; read = ap (λ t. form_of names n t) (whole ∙ sym (regrouped (codes "    assert ") x (codes " == ") y)) ∙ check_line names n (x ++ codes " == " ++ y) form (check_same names n x y a b left right) ∙ ap (λ t. Some (form, t)) (sym same) }
 form_same names n line s after (spells_print x e whole spelled stands same) =
     let form : StmtForm = Print (Value e ∷ []) in
     record { form = form; stands = stands; read = ap (λ t. form_of names n t) (whole ∙ append_assoc (codes "    print(") x (codes ")")) ∙ print_line names n (x ++ codes ")") form (print_same names n x e spelled) ∙ ap (λ t. Some (form, t)) (sym same) }

@@ -1,5 +1,5 @@
 -- What is read is spelled so.
-use Rattle.std.proofs.Common.{ℕ, ◌≡◌, ◌+◌, inl, inr, List, [], ◌∷◌, ◌++◌, length, Option, Some, None, cond, refl, sym, ap, ◌∙◌, codes, append_assoc, bytes_eq, subst}
+use Rattle.std.proofs.Common.{ℕ, ◌≡◌, ◌+◌, inl, inr, List, [], ◌∷◌, ◌++◌, length, Option, Some, None, true, cond, refl, sym, ap, ◌∙◌, codes, append_assoc, bytes_eq, subst}
 use Rattle.std.specs.Option.{option_map}
 use Rattle.std.proofs.lemmas.Slice.Eq.{bytes_eq-Decides}
 use Rattle.py_base.specs.declared.Place.{Place}
@@ -9,7 +9,7 @@ use Rattle.py_syntax.specs.declared.StmtForm.{StmtForm}
 use Rattle.py_syntax.specs.declared.StmtForm.TheVariants.{Pass, Store, Check, Print}
 use Rattle.py_front.specs.SmallForms.{is_number, number_value, is_name, is_known, local_number, with_name, place_at, number_at, local_at, sum_at, equation_at, stmt_at, SpellsOperand, spells_number, spells_local, SpellsSum, SpellsExpr, spells_operand, spells_plus, spells_minus, SpellsStmt, spells_pass, spells_store, spells_check, spells_print}
 use Rattle.py_front.specs.Reading.{◌>>=◌, behind, ahead_of, cut_at, further, operand_of, sum_of, expr_of, check_of, print_of, store_of, form_of}
-use Rattle.py_front.proofs.Pieces.{chosen, bind_some, behind_some, ahead_some, cut_some, either_some, some_same, guard_some, map_some}
+use Rattle.py_front.proofs.Pieces.{chosen, bind_some, behind_some, ahead_some, cut_some, either_some, some_same, guard_some, map_some, regrouped}
 
 operand_found : (names : List (List ℕ)) (p : Place) (bytes : List ℕ) (e : Expr) → operand_of names p bytes ≡ Some e → SpellsOperand names p bytes e
 unfolding operand_of
@@ -73,6 +73,14 @@ expr_found names line col bytes e is =
           subst (λ x. SpellsExpr names line col x e) (sym (cut_some 32 bytes h.0 h.1)) (sum_found names line col h.0.0 h.0.1 a.0 e (operand_found names p h.0.0 a.0 a.1) a.2)
     ]
 
+check_whole : (bytes left rest x y : List ℕ) → bytes ≡ left ++ rest → left ≡ x ++ codes " " → rest ≡ codes "== " ++ y → bytes ≡ x ++ codes " == " ++ y
+check_whole bytes left rest x y whole left_is rest_is =
+    whole ∙ ap (λ t. t ++ rest) left_is ∙ ap (λ t. (x ++ codes " ") ++ t) rest_is ∙ append_assoc x (codes " ") (codes "== " ++ y) ∙ sym (append_assoc x (codes " == ") y)
+
+check_stands : (names : List (List ℕ)) (n : ℕ) (bytes x y : List ℕ) (a b : Expr) (form : StmtForm) → bytes ≡ x ++ codes " == " ++ y → SpellsExpr names n 12 x a → SpellsExpr names n (12 + length x + 4) y b → Check (equation_at (place_at n (12 + length x + 1)) a b) ≡ form → SpellsStmt names n (codes "    assert " ++ bytes) (stmt_at n form) names
+check_stands names n bytes x y a b form whole left right is =
+    spells_check x y a b (ap (λ t. codes "    assert " ++ t) whole ∙ regrouped (codes "    assert ") x (codes " == ") y) left right (ap (λ f. stmt_at n f) (sym is)) refl
+
 check_found : (names : List (List ℕ)) (n : ℕ) (bytes : List ℕ) (form : StmtForm) → check_of names n bytes ≡ Some form → SpellsStmt names n (codes "    assert " ++ bytes) (stmt_at n form) names
 unfolding check_of
 check_found names n bytes form is =
@@ -85,12 +93,8 @@ check_found names n bytes form is =
     let y = bind_some (behind (codes "== ") parts.0.1) (λ y. Both x.0 y) form x.2 in
     let a = bind_some (expr_of names (place_at n 12) x.0) (λ a. Last x.0 a y.0) form y.2 in
     let b = bind_some (expr_of names (place_at n (12 + length x.0 + 4)) y.0) (λ b. Some (equation x.0 a.0 b)) form a.2 in
-    let left : parts.0.0 ≡ x.0 ++ codes " " = ahead_some (codes " ") parts.0.0 x.0 x.1 in
-    let right : parts.0.1 ≡ codes "== " ++ y.0 = behind_some (codes "== ") parts.0.1 y.0 y.1 in
-    let joined : (x.0 ++ codes " ") ++ (codes "== " ++ y.0) ≡ x.0 ++ codes " == " ++ y.0 = append_assoc x.0 (codes " ") (codes "== " ++ y.0) ∙ sym (append_assoc x.0 (codes " == ") y.0) in
-    let whole : bytes ≡ x.0 ++ codes " == " ++ y.0 = cut_some 61 bytes parts.0 parts.1 ∙ ap (λ t. t ++ parts.0.1) left ∙ ap (λ t. (x.0 ++ codes " ") ++ t) right ∙ joined in
-    let tail : codes "    assert " ++ x.0 ++ codes " == " ++ y.0 ≡ codes "    assert " ++ (x.0 ++ codes " == " ++ y.0) = ap (λ t. t ++ y.0) (append_assoc (codes "    assert ") x.0 (codes " == ")) ∙ append_assoc (codes "    assert ") (x.0 ++ codes " == ") y.0 in
-    spells_check x.0 y.0 a.0 b.0 (ap (λ t. codes "    assert " ++ t) whole ∙ sym tail) (expr_found names n 12 x.0 a.0 a.1) (expr_found names n (12 + length x.0 + 4) y.0 b.0 b.1) (ap (λ f. stmt_at n f) (sym (some_same (equation x.0 a.0 b.0) form b.2))) refl
+    let whole : bytes ≡ x.0 ++ codes " == " ++ y.0 = check_whole bytes parts.0.0 parts.0.1 x.0 y.0 (cut_some 61 bytes parts.0 parts.1) (ahead_some (codes " ") parts.0.0 x.0 x.1) (behind_some (codes "== ") parts.0.1 y.0 y.1) in
+    check_stands names n bytes x.0 y.0 a.0 b.0 form whole (expr_found names n 12 x.0 a.0 a.1) (expr_found names n (12 + length x.0 + 4) y.0 b.0 b.1) (some_same (equation x.0 a.0 b.0) form b.2)
 
 print_found : (names : List (List ℕ)) (n : ℕ) (bytes : List ℕ) (form : StmtForm) → print_of names n bytes ≡ Some form → SpellsStmt names n (codes "    print(" ++ bytes) (stmt_at n form) names
 unfolding print_of
@@ -101,6 +105,11 @@ print_found names n bytes form is =
     let whole : bytes ≡ x.0 ++ codes ")" = ahead_some (codes ")") bytes x.0 x.1 in
     spells_print x.0 e.0 (ap (λ t. codes "    print(" ++ t) whole ∙ sym (append_assoc (codes "    print(") x.0 (codes ")"))) (expr_found names n 11 x.0 e.0 e.1) (ap (λ f. stmt_at n f) (sym (some_same (printed e.0) form e.2))) refl
 
+store_stands : (names : List (List ℕ)) (n : ℕ) (bytes name back x : List ℕ) (e : Expr) (read : StmtForm × List (List ℕ)) → bytes ≡ name ++ back → back ≡ codes " = " ++ x → is_name name ≡ true → SpellsExpr names n (5 + length name + 3) x e → (Store (local_number names name) e, with_name names name) ≡ read → SpellsStmt names n (codes "    " ++ bytes) (stmt_at n read.0) read.1
+store_stands names n bytes name back x e read cut back_is named spelled is =
+    let whole : bytes ≡ name ++ codes " = " ++ x = cut ∙ ap (λ t. name ++ t) back_is ∙ sym (append_assoc name (codes " = ") x) in
+    spells_store name x e (ap (λ t. codes "    " ++ t) whole ∙ regrouped (codes "    ") name (codes " = ") x) named spelled (ap (λ r. stmt_at n r.0) (sym is)) (ap (λ r. r.1) (sym is))
+
 store_found : (names : List (List ℕ)) (n : ℕ) (bytes : List ℕ) (read : StmtForm × List (List ℕ)) → store_of names n bytes ≡ Some read → SpellsStmt names n (codes "    " ++ bytes) (stmt_at n read.0) read.1
 unfolding store_of
 store_found names n bytes read is =
@@ -109,13 +118,9 @@ store_found names n bytes read is =
     let Stored : List ℕ × List ℕ → Option (StmtForm × List (List ℕ)) = λ parts. behind (codes " = ") parts.1 >>= λ x. Value parts.0 x in
     let parts = bind_some (cut_at 32 bytes) (λ parts. cond (is_name parts.0) (Stored parts) None) read is in
     let named = guard_some (is_name parts.0.0) (Stored parts.0) read parts.2 in
-    let name : List ℕ = parts.0.0 in
-    let x = bind_some (behind (codes " = ") parts.0.1) (λ x. Value name x) read named.1 in
-    let e = bind_some (expr_of names (place_at n (5 + length name + 3)) x.0) (λ e. Some (stored name e)) read x.2 in
-    let same : read ≡ stored name e.0 = sym (some_same (stored name e.0) read e.2) in
-    let whole : bytes ≡ name ++ codes " = " ++ x.0 = cut_some 32 bytes parts.0 parts.1 ∙ ap (λ t. name ++ t) (behind_some (codes " = ") parts.0.1 x.0 x.1) ∙ sym (append_assoc name (codes " = ") x.0) in
-    let tail : codes "    " ++ name ++ codes " = " ++ x.0 ≡ codes "    " ++ (name ++ codes " = " ++ x.0) = ap (λ t. t ++ x.0) (append_assoc (codes "    ") name (codes " = ")) ∙ append_assoc (codes "    ") (name ++ codes " = ") x.0 in
-    spells_store name x.0 e.0 (ap (λ t. codes "    " ++ t) whole ∙ sym tail) named.0 (expr_found names n (5 + length name + 3) x.0 e.0 e.1) (ap (λ r. stmt_at n r.0) same) (ap (λ r. r.1) same)
+    let x = bind_some (behind (codes " = ") parts.0.1) (λ x. Value parts.0.0 x) read named.1 in
+    let e = bind_some (expr_of names (place_at n (5 + length parts.0.0 + 3)) x.0) (λ e. Some (stored parts.0.0 e)) read x.2 in
+    store_stands names n bytes parts.0.0 parts.0.1 x.0 e.0 read (cut_some 32 bytes parts.0 parts.1) (behind_some (codes " = ") parts.0.1 x.0 x.1) named.0 (expr_found names n (5 + length parts.0.0 + 3) x.0 e.0 e.1) (some_same (stored parts.0.0 e.0) read e.2)
 
 pub form_found : (names : List (List ℕ)) (n : ℕ) (line : List ℕ) (read : StmtForm × List (List ℕ)) → form_of names n line ≡ Some read → SpellsStmt names n line (stmt_at n read.0) read.1
 unfolding form_of
