@@ -1,5 +1,5 @@
 -- The lines of a text: that what is spelled is read, that the reading finds what is spelled or stops at the first bad line, and that it does one of these alone.
-use Rattle.std.proofs.Common.{ℕ, suc, ◌≡◌, ◌+◌, ◌≤◌, ◌<◌, ◌⊎◌, inl, inr, List, [], ◌∷◌, ◌++◌, length, take, drop, Result, Ok, Err, true, false, cond, nat_lt, arith, refl, sym, ap, ◌∙◌, codes, append_assoc, bytes_eq, subst, add-zero, take-take}
+use Rattle.std.proofs.Common.{ℕ, suc, ◌≡◌, ◌+◌, ◌≤◌, ◌<◌, ◌⊎◌, inl, inr, List, [], ◌∷◌, ◌++◌, length, take, drop, Ok, Err, true, false, cond, nat_lt, arith, refl, sym, ap, ◌∙◌, codes, append_assoc, bytes_eq, subst, add-zero, take-take}
 use Rattle.std.proofs.lemmas.Grind.{common_steps}
 use Rattle.std.proofs.lemmas.Bool.{ltb-true, ltb-false}
 use Rattle.std.proofs.lemmas.List.{take-append-drop}
@@ -10,10 +10,10 @@ use Rattle.py_syntax.specs.declared.Module.{Module}
 use Rattle.py_front.specs.declared.fault.FrontFault.TheVariants.{NotBuilt, NoMain}
 use Rattle.py_front.specs.TextLines.{lines_of, is_skipped, AreSkipped}
 use Rattle.py_front.specs.SmallForms.{stmt_at, spells_pass}
-use Rattle.py_front.specs.SmallText.{main_module, line_start, SpellsMain, SpellsFrom, Spells, Begins, IsFirstBad, StopsAt}
+use Rattle.py_front.specs.SmallText.{main_module, line_start, SpellsFrom, Spells, Begins, IsFirstBad, StopsAt}
 use Rattle.py_front.specs.Reading.{scan_body, scan}
 use Rattle.py_front.proofs.Pieces.{test_true, test_false, whether}
-use Rattle.py_front.proofs.Body.{Answer, not_built, Adds, Stops, later, at_once, body_same, body_ends, pass_not_skipped}
+use Rattle.py_front.proofs.Body.{Answer, not_built, Stops, later, at_once, body_same, body_ends, pass_not_skipped}
 
 abbrev no_main : ℕ → Answer
 no_main n = Err (NoMain (line_start n))
@@ -125,7 +125,7 @@ begins_before lines i j fewer b =
     let front : List (List ℕ) = take i lines in
     let more : List (List ℕ) = drop j front ++ b.0 in
     let same : front ++ b.0 ≡ take j lines ++ more =
-        ap (λ t. t ++ b.0) (sym (take-append-drop j front)) ∙ append_assoc (take j front) (drop j front) b.0 ∙ ap (λ t. t ++ more) (take-take j i lines fewer) in
+    ap (λ t. t ++ b.0) (sym (take-append-drop j front)) ∙ append_assoc (take j front) (drop j front) b.0 ∙ ap (λ t. t ++ more) (take-take j i lines fewer) in
     (more, b.1, subst (λ t. SpellsFrom 1 t b.1) same b.2)
 
 not_before : (lines : List (List ℕ)) (i j : ℕ) → i < j → IsFirstBad lines i → IsFirstBad lines j → ⊥

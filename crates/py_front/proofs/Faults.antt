@@ -1,8 +1,7 @@
 -- What an answer of the front says, from what was read.
-use Rattle.std.proofs.Common.{ℕ, ◌≡◌, ◌+◌, ◌⊎◌, inl, inr, List, length, Result, Ok, Err, IfOk, refl, sym, ap, ◌∙◌, subst}
+use Rattle.std.proofs.Common.{ℕ, ◌≡◌, ◌+◌, ◌⊎◌, inl, inr, List, Ok, Err, IfOk, refl, sym, ◌∙◌, subst}
 use Rattle.py_base.specs.declared.Place.{Place}
 use Rattle.py_syntax.specs.declared.Module.{Module}
-use Rattle.py_front.specs.declared.fault.FrontFault.{FrontFault}
 use Rattle.py_front.specs.declared.fault.FrontFault.TheVariants.{NotBuilt, NoMain, OutOfMemory}
 use Rattle.py_front.specs.TextLines.{lines_of, AreSkipped}
 use Rattle.py_front.specs.SmallText.{Spells, StopsAt, line_start, end_of}

@@ -7,7 +7,7 @@ use Rattle.py_syntax.specs.declared.Expr.{Expr}
 use Rattle.py_syntax.specs.declared.PrintArg.TheVariants.{Value}
 use Rattle.py_syntax.specs.declared.StmtForm.{StmtForm}
 use Rattle.py_syntax.specs.declared.StmtForm.TheVariants.{Pass, Store, Check, Print}
-use Rattle.py_front.specs.SmallForms.{is_number, number_value, is_name, is_known, local_number, with_name, place_at, number_at, local_at, sum_at, equation_at, stmt_at, SpellsOperand, spells_number, spells_local, SpellsSum, SpellsExpr, spells_operand, spells_plus, spells_minus, SpellsStmt, spells_pass, spells_store, spells_check, spells_print}
+use Rattle.py_front.specs.SmallForms.{is_number, number_value, is_name, is_known, local_number, with_name, place_at, number_at, local_at, sum_at, equation_at, stmt_at, SpellsOperand, spells_number, spells_local, SpellsExpr, spells_operand, spells_plus, spells_minus, SpellsStmt, spells_pass, spells_store, spells_check, spells_print}
 use Rattle.py_front.specs.Reading.{◌>>=◌, behind, ahead_of, cut_at, further, operand_of, sum_of, expr_of, check_of, print_of, store_of, form_of}
 use Rattle.py_front.proofs.Pieces.{chosen, bind_some, behind_some, ahead_some, cut_some, either_some, some_same, guard_some, map_some, regrouped}
 

@@ -11,5 +11,4 @@ pub fn a_text_has_one_answer()
     ensures small_or_skipped { (text : List ℕ) (m : Module) → Spells text m → ¬ AreSkipped (lines_of text) }
     ensures one_line { (text : List ℕ) (i j : ℕ) → StopsAt text i → StopsAt text j → i ≡ j }
     ensures an_answer { (text : List ℕ) → ((m : Module) × Spells text m) ⊎ (AreSkipped (lines_of text) ⊎ ((i : ℕ) × StopsAt text i)) }
-{
-}
+{}

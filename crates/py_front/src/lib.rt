@@ -14,3 +14,6 @@ mod words;
 pub use fault::FrontFault;
 pub use laws::a_text_has_one_answer;
 pub use reader::front;
+
+#[cfg(test)]
+mod tests;

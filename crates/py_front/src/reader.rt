@@ -6,7 +6,6 @@ ghost use Rattle.py_front.specs.SmallForms.{stmt_at};
 ghost use Rattle.py_front.specs.TextLines.{lines_of, AreSkipped};
 ghost use Rattle.py_front.specs.SmallText.{Spells, StopsAt, line_start, end_of};
 ghost use Rattle.py_front.specs.Answers.{OkOrNoMemory, ErrOrNoMemory};
-
 ghost use Rattle.py_front.specs.Reading.{scan, scan_body, Gives};
 
 use crate::fault::FrontFault;

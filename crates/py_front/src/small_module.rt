@@ -37,12 +37,7 @@ fn ints(alloc: Global, count: usize) -> Result<Items<Ty>, OutOfMemory>
     Ok(Items::from_vec(vec![in alloc; Ty::Int; count]?))
 }
 
-fn main_method(
-    alloc: Global,
-    head: u32,
-    locals: Items<Ty>,
-    body: Items<Stmt>,
-) -> Method
+fn main_method(alloc: Global, head: u32, locals: Items<Ty>, body: Items<Stmt>) -> Method
     ensures { (count : ℕ) → locals ≡ replicate count Int → result ≡ main_method head count body }
 {
     Method {
