@@ -1,0 +1,74 @@
+-- Where elimination, or the way back from it to a point, leaves 128 bits.
+use Rattle.std.specs.Prelude.{◌≡◌, ◌≢◌, ℕ, ◌+◌, ◌≤◌, ◌<◌, nat_lt, ℤ, pos, ◌-ℤ◌, ◌*ℤ◌, ◌<ℤ◌, List, [], ◌∷◌, ◌++◌, ◌⊎◌, map, filter, All, Any, FitsSigned}
+use Rattle.std.specs.Int.{w128}
+use Rattle.lin_rows.specs.declared.row.Row.{Row}
+use Rattle.lin_rows.specs.declared.point.Point.{Point}
+use Rattle.lin_rows.specs.Terms.{coef_at, value_at}
+use Rattle.lin_rows.specs.Lowest.{IsWideElimination}
+use Rattle.lin_rows.specs.Derived.{Derived, Occurs}
+use Rattle.lin_rows.specs.Points.{valuation, HasLeastUnit, Lists}
+
+-- two rows derived before `v`, of opposite signs there, whose sum that cancels `v` is too wide
+pub record IsWidePair (rows : List Row) (a b : Row) (v : ℕ) : Type 0 where
+  pub left : Derived rows v a
+  pub right : Derived rows v b
+  pub positive : pos 0 <ℤ coef_at a.coefs v
+  pub negative : coef_at b.coefs v <ℤ pos 0
+  pub wide : IsWideElimination v a b
+
+-- at the point the row holds with equality, which is the bound that it gives for the least variable
+-- that it has from the values of the later ones
+abbrev pub IsTight : Point → Row → Type 0
+IsTight p r = value_at (valuation p.values) r.coefs ≡ r.bound *ℤ p.q
+
+-- the value of `v` is the bound that a row derived before `v` gives
+abbrev pub IsBound : List Row → Point → ℕ → Type 0
+IsBound rows p v = (r : Row) × Derived rows v r × (coef_at r.coefs v ≢ pos 0) × IsTight p r
+
+-- a point of the variables of the rows from `n` on, in the least unit
+pub record IsPointFrom (rows : List Row) (n : ℕ) (p : Point) : Type 0 where
+  pub variables : Lists p (λ v. (n ≤ v) × Occurs rows v)
+  pub unit : HasLeastUnit p
+
+-- each value is 0, or the bound that a row derived before its variable gives
+abbrev pub IsOnTheWay : List Row → Point → Type 0
+IsOnTheWay rows p = All (λ t. (t.1 ≡ pos 0) ⊎ IsBound rows p t.0) p.values
+
+-- the products of a row's coefficients after `v` with the values, in the order of the variables
+abbrev pub products_after : ℕ → Row → (ℕ → ℤ) → List ℤ
+products_after v r x = map (λ t. t.1 *ℤ x t.0) (filter (λ t. nat_lt v t.0) r.coefs)
+
+-- what is left of a number as others are taken from it one by one
+abbrev pub left_of : ℤ → List ℤ → List ℤ
+left_of z [] = z ∷ []
+left_of z (y ∷ ys) = z ∷ left_of (z -ℤ y) ys
+
+-- The products of the way back to `v`, and their sums. The products are those of each coefficient after
+-- `v` with its variable's value and of the bound with the unit, which make up the bound on `v`. The sums
+-- are those that the way back takes: the bound's product less the first of the others, in the order of
+-- the variables.
+abbrev pub numbers_back : Point → Row → ℕ → List ℤ
+numbers_back p r v =
+    let products = products_after v r (valuation p.values) in
+    products ++ left_of (r.bound *ℤ p.q) products
+
+-- `p'` is the point with the bound that the row gives for `v`, in the new least unit
+pub record Extends (p : Point) (r : Row) (v : ℕ) (p' : Point) : Type 0 where
+  pub same : (u : ℕ) → v < u → valuation p'.values u *ℤ p.q ≡ valuation p.values u *ℤ p'.q
+  pub bound : IsTight p' r
+
+-- a number is outside 128 bits
+abbrev pub IsWide : ℤ → Type 0
+IsWide z = ¬ (FitsSigned w128 z)
+
+abbrev pub HasWideNumber : Point → Type 0
+HasWideNumber p = IsWide p.q ⊎ Any (λ t. IsWide t.1) p.values
+
+-- `p` is a point of the variables after `v` as the way back makes it, and `r` a row derived before `v`
+-- that has it, where a number of the way back to `v`, or of the point with its value, is outside 128 bits
+pub record IsWideBound (rows : List Row) (p : Point) (r : Row) (v : ℕ) : Type 0 where
+  pub derived : Derived rows v r
+  pub has : coef_at r.coefs v ≢ pos 0
+  pub after : IsPointFrom rows (v + 1) p
+  pub way : IsOnTheWay rows p
+  pub wide : Any IsWide (numbers_back p r v) ⊎ ((p' : Point) × IsPointFrom rows v p' × Extends p r v p' × HasWideNumber p')
