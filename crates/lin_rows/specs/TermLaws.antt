@@ -26,6 +26,16 @@ coef-hit v w x ts e = hit v w (x +ℤ coef_at ts v) (coef_at ts v) e
 pub coef-miss : (v w : ℕ) (x : ℤ) (ts : List (ℕ × ℤ)) → v ≢ w → coef_at ((w, x) ∷ ts) v ≡ coef_at ts v
 coef-miss v w x ts n = miss v w (x +ℤ coef_at ts v) (coef_at ts v) n
 
+-- the coefficients of terms after others are added
+pub coef-append : (ts us : List (ℕ × ℤ)) (v : ℕ) → coef_at (ts ++ us) v ≡ coef_at ts v +ℤ coef_at us v
+coef-append [] us v = omega (arith, ints)
+coef-append (t ∷ ts) us v = at_or_not v t.0
+    (λ e. coef-hit v t.0 t.1 (ts ++ us) e ∙ ap (λ z. t.1 +ℤ z) (coef-append ts us v) ∙ sym (assoc t.1 (coef_at ts v) (coef_at us v)) ∙ ap (λ z. z +ℤ coef_at us v) (sym (coef-hit v t.0 t.1 ts e)))
+    (λ n. coef-miss v t.0 t.1 (ts ++ us) n ∙ coef-append ts us v ∙ ap (λ z. z +ℤ coef_at us v) (sym (coef-miss v t.0 t.1 ts n)))
+  where
+    assoc : (a b c : ℤ) → (a +ℤ b) +ℤ c ≡ a +ℤ (b +ℤ c)
+    assoc a b c = omega (arith, ints)
+
 -- a variable below all of those of the terms
 pub coef-below : (n : ℕ) (ts : List (ℕ × ℤ)) (v : ℕ) → IsAbove n ts → v < n → coef_at ts v ≡ pos 0
 coef-below n [] v h lt = refl

@@ -1,5 +1,5 @@
 // Sums of two rows by multipliers.
-ghost use Rattle.std.specs.Prelude.{◌≡◌, ◌≢◌, [], ◌+◌, ◌<◌, ◌+ℤ◌, ◌*ℤ◌, length, pos, MatchOption, IfOk, OnOk, IfErr};
+ghost use Rattle.std.specs.Prelude.{◌≡◌, [], ◌+◌, ◌<◌, ◌+ℤ◌, ◌*ℤ◌, length, IfNone, IfSome, IfOk, OnOk, IfErr};
 ghost use Rattle.std.specs.Option.{SomeIff};
 ghost use Rattle.lin_rows.specs.Rows.{MixFits, IsSum, SumFits};
 ghost use Rattle.lin_rows.specs.Merging.{TakesLeast};
@@ -31,53 +31,57 @@ struct Next<'a> {
 }
 
 fn least<'a>(a: &'a [(u32, i128)], b: &'a [(u32, i128)]) -> Option<Next<'a>>
-    ensures { MatchOption result ((a.now ≡ []) × (b.now ≡ []))
-        (λ n. TakesLeast a.now b.now n.var n.left n.right n.lefts.now n.rights.now
-            × (length n.lefts.now + length n.rights.now < length a.now + length b.now)) }
+    ensures none { IfNone result ((a.now ≡ []) × (b.now ≡ [])) }
+    ensures least { IfSome result (λ n. TakesLeast a.now b.now n.var n.left n.right n.lefts.now n.rights.now) }
+    ensures shorter { IfSome result (λ n. length n.lefts.now + length n.rights.now < length a.now + length b.now) }
 {
-    match (a, b) {
-        ([], []) => None,
-        ([(v, x), lefts @ ..], []) => Some(Next {
-            var: *v,
-            left: *x,
-            right: 0,
-            lefts,
-            rights: b,
-        }),
-        ([], [(w, y), rights @ ..]) => Some(Next {
-            var: *w,
-            left: 0,
-            right: *y,
-            lefts: a,
-            rights,
-        }),
-        ([(v, x), lefts @ ..], [(w, y), rights @ ..]) => {
-            if *v < *w {
-                Some(Next {
-                    var: *v,
-                    left: *x,
-                    right: 0,
-                    lefts,
-                    rights: b,
-                })
-            } else if *w < *v {
-                Some(Next {
-                    var: *w,
-                    left: 0,
-                    right: *y,
-                    lefts: a,
-                    rights,
-                })
-            } else {
-                Some(Next {
-                    var: *v,
-                    left: *x,
-                    right: *y,
-                    lefts,
-                    rights,
-                })
+    match a {
+        [] => match b {
+            [] => None,
+            [(w, y), rights @ ..] => Some(Next {
+                var: *w,
+                left: 0,
+                right: *y,
+                lefts: a,
+                rights,
+            }),
+        },
+        [(v, x), lefts @ ..] => match b {
+            [] => Some(Next {
+                var: *v,
+                left: *x,
+                right: 0,
+                lefts,
+                rights: b,
+            }),
+            [(w, y), rights @ ..] => {
+                if *v < *w {
+                    Some(Next {
+                        var: *v,
+                        left: *x,
+                        right: 0,
+                        lefts,
+                        rights: b,
+                    })
+                } else if *w < *v {
+                    Some(Next {
+                        var: *w,
+                        left: 0,
+                        right: *y,
+                        lefts: a,
+                        rights,
+                    })
+                } else {
+                    Some(Next {
+                        var: *v,
+                        left: *x,
+                        right: *y,
+                        lefts,
+                        rights,
+                    })
+                }
             }
-        }
+        },
     }
 }
 
