@@ -101,10 +101,11 @@ pub fn combine(
     let mut left = a.coefs.as_slice();
     let mut right = b.coefs.as_slice();
     'terms: while let Some(next) = least(left, right) {
-        match mix(by_left, next.left, by_right, next.right) {
-            None => return Err(RowFault::Wide),
-            Some(0) => {}
-            Some(coef) => coefs.push(next.var, coef)?,
+        let Some(coef) = mix(by_left, next.left, by_right, next.right) else {
+            return Err(RowFault::Wide);
+        };
+        if coef != 0 {
+            coefs.push(next.var, coef)?;
         }
         left = next.lefts;
         right = next.rights;
