@@ -16,6 +16,10 @@ pub record IsLowest (x y k l : ℤ) : Type 0 where
   pub cancels : Cancels x y k l
   pub least : (m n : ℤ) → Cancels x y m n → (k ≤ℤ m) × (l ≤ℤ n)
 
+-- one of the lowest multipliers is outside 128 bits
+abbrev pub HasWideLowest : ℤ → ℤ → Type 0
+HasWideLowest x y = (k : ℤ) × (l : ℤ) × IsLowest x y k l × ¬ (FitsSigned w128 k × FitsSigned w128 l)
+
 -- what holds of the lowest multipliers that cancel `v`
 abbrev pub AtLowest : ℕ → Row → Row → (ℤ → ℤ → Type 0) → Type 0
 AtLowest v a b P = (k : ℤ) × (l : ℤ) × IsLowest (coef_at a.coefs v) (coef_at b.coefs v) k l × P k l
