@@ -2,12 +2,14 @@
 use Rattle.std.specs.Prelude.{◌≡◌, ◌≢◌, ℕ, ◌+◌, ◌-◌, ◌≤◌, ◌<◌, ℤ, pos, negsuc, ◌+ℤ◌, ◌*ℤ◌, List, [], ◌∷◌, ◌++◌, length, take, drop, get_or, ◌↔◌, FitsSigned, refl}
 use Rattle.std.specs.Int.{w128}
 use Rattle.std.proofs.Common.{sym, ap, ◌∙◌, subst, arith, append_assoc, append-nil}
+use Rattle.std.proofs.Math.IntN.{+ℤ_assoc}
 use Rattle.std.proofs.lemmas.Int.{ints}
 use Rattle.std.proofs.lemmas.Grind.{common_steps}
 use borrow.Author.Differences.{up}
 use Rattle.lin_rows.specs.Terms.{IsAbove, IsNormal, coef_at}
 use Rattle.lin_rows.specs.Rows.{MixFits}
 use Rattle.lin_rows.specs.Merging.{IsLeast, TakesLeast}
+use Rattle.lin_rows.specs.Ring.{+ℤ-none, none-+ℤ, mixed-zeros, mixed-none}
 use Rattle.lin_rows.specs.TermLaws.{at_or_not, coef-miss, coef-append, coef-below, coef-first, above_less}
 
 -- a list that isn't empty is its first element before the rest
@@ -113,19 +115,10 @@ pub record Mixes (k l : ℤ) (a b : List (ℕ × ℤ)) (low : ℕ) (out ls rs : 
 -- at the start nothing is out
 pub mixes_first : (k l : ℤ) (a b out ls rs : List (ℕ × ℤ)) → out ≡ [] → ls ≡ a → rs ≡ b → IsNormal a → IsNormal b → Mixes k l a b 0 out ls rs
 mixes_first k l a b out ls rs none e f p q =
-    rw (none, e, f) (record { lefts = p; rights = q; in_order = λ rest above. above; coefs = λ v. plus (mixed k l a b v); fits = (λ h. h, λ h. h) })
-  where
-    plus : (z : ℤ) → z ≡ pos 0 +ℤ z
-    plus z = omega (arith, ints)
+    rw (none, e, f) (record { lefts = p; rights = q; in_order = λ rest above. above; coefs = λ v. sym (none-+ℤ (pos 0) (mixed k l a b v) refl); fits = (λ h. h, λ h. h) })
 
 mixed-at : (k l : ℤ) (ls rs : List (ℕ × ℤ)) (v : ℕ) (x y : ℤ) → coef_at ls v ≡ x → coef_at rs v ≡ y → mixed k l ls rs v ≡ k *ℤ x +ℤ l *ℤ y
 mixed-at k l ls rs v x y p q = ap (λ z. k *ℤ z +ℤ l *ℤ coef_at rs v) p ∙ ap (λ z. k *ℤ x +ℤ l *ℤ z) q
-
-mix_zero : (k l : ℤ) → k *ℤ pos 0 +ℤ l *ℤ pos 0 ≡ pos 0
-mix_zero k l = omega (arith, ints)
-
-mixed-none : (k l : ℤ) (ls rs : List (ℕ × ℤ)) (v : ℕ) → coef_at ls v ≡ pos 0 → coef_at rs v ≡ pos 0 → mixed k l ls rs v ≡ pos 0
-mixed-none k l ls rs v p q = mixed-at k l ls rs v (pos 0) (pos 0) p q ∙ mix_zero k l
 
 -- the sum of what is left is the term of its least variable and the sum of the rest
 mixed-least : (k l : ℤ) (low : ℕ) (ls rs : List (ℕ × ℤ)) (v : ℕ) (x y c : ℤ) (ls' rs' : List (ℕ × ℤ)) → IsLeast low ls rs v x y ls' rs' → c ≡ k *ℤ x +ℤ l *ℤ y → (w : ℕ) → mixed k l ls rs w ≡ coef_at ((v, c) ∷ []) w +ℤ mixed k l ls' rs' w
@@ -133,21 +126,12 @@ mixed-least k l low ls rs v x y c ls' rs' f is w = at_or_not w v
     (λ e.
     let below_left : coef_at ls' w ≡ pos 0 = coef-below (v + 1) ls' w f.lefts (omega arith) in
     let below_right : coef_at rs' w ≡ pos 0 = coef-below (v + 1) rs' w f.rights (omega arith) in
-    ap (mixed k l ls rs) e ∙ mixed-at k l ls rs v x y f.left f.right ∙ sym is ∙ sym (coef-first w v c [] e tt) ∙ plus_none (coef_at ((v, c) ∷ []) w) (mixed k l ls' rs' w) (mixed-none k l ls' rs' w below_left below_right))
-    (λ n. mixed-at k l ls rs w (coef_at ls' w) (coef_at rs' w) (f.left_rest w n) (f.right_rest w n) ∙ none_plus (coef_at ((v, c) ∷ []) w) (mixed k l ls' rs' w) (coef-miss w v c [] n))
-  where
-    plus_none : (z s : ℤ) → s ≡ pos 0 → z ≡ z +ℤ s
-    plus_none z s e = omega (arith, ints)
-
-    none_plus : (z s : ℤ) → z ≡ pos 0 → s ≡ z +ℤ s
-    none_plus z s e = omega (arith, ints)
-
-moved : (a b c : ℤ) → a +ℤ (b +ℤ c) ≡ (a +ℤ b) +ℤ c
-moved a b c = omega (arith, ints)
+    ap (mixed k l ls rs) e ∙ mixed-at k l ls rs v x y f.left f.right ∙ sym is ∙ sym (coef-first w v c [] e tt) ∙ sym (+ℤ-none (coef_at ((v, c) ∷ []) w) (mixed k l ls' rs' w) (mixed-none k l (coef_at ls' w) (coef_at rs' w) below_left below_right)))
+    (λ n. mixed-at k l ls rs w (coef_at ls' w) (coef_at rs' w) (f.left_rest w n) (f.right_rest w n) ∙ sym (none-+ℤ (coef_at ((v, c) ∷ []) w) (mixed k l ls' rs' w) (coef-miss w v c [] n)))
 
 fits_nothing : (k l : ℤ) → MixFits k (pos 0) l (pos 0)
 fits_nothing k l =
-    (subst (λ z. FitsSigned w128 z) (zero_times k) zero_fits, subst (λ z. FitsSigned w128 z) (zero_times l) zero_fits, subst (λ z. FitsSigned w128 z) (sym (mix_zero k l)) zero_fits)
+    (subst (λ z. FitsSigned w128 z) (zero_times k) zero_fits, subst (λ z. FitsSigned w128 z) (zero_times l) zero_fits, subst (λ z. FitsSigned w128 z) (sym (mixed-zeros k l)) zero_fits)
   where
     zero_times : (k : ℤ) → pos 0 ≡ k *ℤ pos 0
     zero_times k = omega (arith, ints)
@@ -182,7 +166,7 @@ mixes_one k l a b low out ls rs v x y c ls' rs' out' least here is some grown m 
       lefts = f.lefts;
       rights = f.rights;
       in_order = λ rest above. subst (λ z. IsNormal z) (sym (ap (λ z. z ++ rest) grown ∙ append_assoc out ((v, c) ∷ []) rest)) (m.in_order ((v, c) ∷ rest) (f.from, some, above));
-      coefs = λ w. m.coefs w ∙ ap (λ z. coef_at out w +ℤ z) (mixed-least k l low ls rs v x y c ls' rs' f is w) ∙ moved (coef_at out w) (coef_at ((v, c) ∷ []) w) (mixed k l ls' rs' w) ∙ ap (λ z. z +ℤ mixed k l ls' rs' w) (sym (ap (λ z. coef_at z w) grown ∙ coef-append out ((v, c) ∷ []) w));
+      coefs = λ w. m.coefs w ∙ ap (λ z. coef_at out w +ℤ z) (mixed-least k l low ls rs v x y c ls' rs' f is w) ∙ sym (+ℤ_assoc (coef_at out w) (coef_at ((v, c) ∷ []) w) (mixed k l ls' rs' w)) ∙ ap (λ z. z +ℤ mixed k l ls' rs' w) (sym (ap (λ z. coef_at z w) grown ∙ coef-append out ((v, c) ∷ []) w));
       fits = fits_rest k l a b low out ls rs v x y ls' rs' f here m;
     }
 
@@ -194,13 +178,10 @@ mixes_none k l a b low out ls rs v x y ls' rs' least here is m =
       lefts = f.lefts;
       rights = f.rights;
       in_order = λ rest above. m.in_order rest (above_less low (v + 1) rest (omega arith) above);
-      coefs = λ w. m.coefs w ∙ ap (λ z. coef_at out w +ℤ z) (mixed-least k l low ls rs v x y (pos 0) ls' rs' f is w ∙ none_plus (coef_at ((v, pos 0) ∷ []) w) (mixed k l ls' rs' w) (no_term v w));
+      coefs = λ w. m.coefs w ∙ ap (λ z. coef_at out w +ℤ z) (mixed-least k l low ls rs v x y (pos 0) ls' rs' f is w ∙ none-+ℤ (coef_at ((v, pos 0) ∷ []) w) (mixed k l ls' rs' w) (no_term v w));
       fits = fits_rest k l a b low out ls rs v x y ls' rs' f here m;
     }
   where
-    none_plus : (z s : ℤ) → z ≡ pos 0 → z +ℤ s ≡ s
-    none_plus z s e = omega (arith, ints)
-
     no_term : (v w : ℕ) → coef_at ((v, pos 0) ∷ []) w ≡ pos 0
     no_term v w = at_or_not w v (λ e. coef-first w v (pos 0) [] e tt) (λ n. coef-miss w v (pos 0) [] n)
 
@@ -213,10 +194,7 @@ mixes_wide k l a b low out ls rs v x y ls' rs' least wide m all =
 -- at the end the sum is out
 pub mixes_last : (k l : ℤ) (a b : List (ℕ × ℤ)) (low : ℕ) (out ls rs : List (ℕ × ℤ)) → ls ≡ [] → rs ≡ [] → Mixes k l a b low out ls rs → (v : ℕ) → coef_at out v ≡ mixed k l a b v
 mixes_last k l a b low out ls rs p q m v =
-    sym (m.coefs v ∙ plus_none (coef_at out v) (mixed k l ls rs v) (mixed-none k l ls rs v (ap (λ z. coef_at z v) p) (ap (λ z. coef_at z v) q)))
-  where
-    plus_none : (z s : ℤ) → s ≡ pos 0 → z +ℤ s ≡ z
-    plus_none z s e = omega (arith, ints)
+    sym (m.coefs v ∙ +ℤ-none (coef_at out v) (mixed k l ls rs v) (mixed-none k l (coef_at ls v) (coef_at rs v) (ap (λ z. coef_at z v) p) (ap (λ z. coef_at z v) q)))
 
 -- and all of it fits
 pub mixes_fit : (k l : ℤ) (a b : List (ℕ × ℤ)) (low : ℕ) (out ls rs : List (ℕ × ℤ)) → ls ≡ [] → rs ≡ [] → Mixes k l a b low out ls rs → AllFit k l a b

@@ -9,5 +9,7 @@ pub mod Merging
 pub mod Ring
 pub mod TermLaws
 pub mod RowLaws
+pub mod DerivedLaws
 pub mod StepLaws
+pub mod UnitLaws
 pub mod LowestLaws

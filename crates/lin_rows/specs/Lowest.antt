@@ -3,7 +3,7 @@ use Rattle.std.specs.Prelude.{◌≡◌, ℕ, ℤ, pos, ◌+ℤ◌, ◌*ℤ◌, 
 use Rattle.std.specs.Int.{w128}
 use Rattle.lin_rows.specs.declared.row.Row.{Row}
 use Rattle.lin_rows.specs.Terms.{coef_at}
-use Rattle.lin_rows.specs.Rows.{IsSum, SumFits}
+use Rattle.lin_rows.specs.Rows.{IsSum, NumbersFit}
 
 -- the positive multipliers `k` and `l` cancel the coefficients `x` and `y`
 pub record Cancels (x y k l : ℤ) : Type 0 where
@@ -28,16 +28,11 @@ AtLowest v a b P = (k : ℤ) × (l : ℤ) × IsLowest (coef_at a.coefs v) (coef_
 abbrev pub IsElimination : ℕ → Row → Row → Row → Type 0
 IsElimination v a b r = AtLowest v a b (λ k l. IsSum k l a b r)
 
--- the multipliers, each product with a coefficient or bound of its row, and each sum of two such
--- products are within 128 bits
-pub record LowestFits (a b : Row) (k l : ℤ) : Type 0 where
-  pub left : FitsSigned w128 k
-  pub right : FitsSigned w128 l
-  pub sum : SumFits k l a b
-
+-- all its numbers are within 128 bits
 abbrev pub FitsElimination : ℕ → Row → Row → Type 0
-FitsElimination v a b = AtLowest v a b (LowestFits a b)
+FitsElimination v a b = AtLowest v a b (λ k l. NumbersFit k l a b)
 
--- one of these numbers is outside
+-- one of its numbers is outside: a multiplier, its product with a coefficient or bound of its row, or a
+-- sum of two such products
 abbrev pub IsWideElimination : ℕ → Row → Row → Type 0
-IsWideElimination v a b = AtLowest v a b (λ k l. ¬ (LowestFits a b k l))
+IsWideElimination v a b = AtLowest v a b (λ k l. ¬ (NumbersFit k l a b))

@@ -21,3 +21,9 @@ MixFits k x l y = FitsSigned w128 (k *ℤ x) × FitsSigned w128 (l *ℤ y) × Fi
 pub record SumFits (k l : ℤ) (a b : Row) : Type 0 where
   pub coefs : (v : ℕ) → MixFits k (coef_at a.coefs v) l (coef_at b.coefs v)
   pub bound : MixFits k a.bound l b.bound
+
+-- so are the multipliers, all of these products and the sums of two
+pub record NumbersFit (k l : ℤ) (a b : Row) : Type 0 where
+  pub left : FitsSigned w128 k
+  pub right : FitsSigned w128 l
+  pub sum : SumFits k l a b

@@ -1,16 +1,13 @@
 -- Laws of combinations.
-use Rattle.std.specs.Prelude.{◌≡◌, ℕ, zero, suc, ℤ, pos, ◌<ℤ◌, ◌≤ℤ◌, List, [], ◌∷◌, ◌++◌, Option, Some, ◌⊎◌, map, slice_get}
+use Rattle.std.specs.Prelude.{◌≡◌, ℕ, zero, suc, ℤ, pos, ◌<ℤ◌, ◌≤ℤ◌, List, [], ◌∷◌, ◌++◌, Option, Some, ◌⊎◌, map, slice_get, All}
 use Rattle.std.proofs.Common.{sym, ap, ◌∙◌, subst, inl, inr, arith, append_assoc, append-nil}
-use Rattle.std.proofs.lemmas.Int.{ints}
+use Rattle.std.proofs.lemmas.List.Elements.{All-head, All-tail}
 use Rattle.lin_rows.specs.declared.row.Row.{Row}
 use Rattle.lin_rows.specs.declared.step.ComboStep.{ComboStep}
 use Rattle.lin_rows.specs.Rows.{Meets}
-use Rattle.lin_rows.specs.Steps.{all_rows, StepHolds, StepsHold, IsCombination}
+use Rattle.lin_rows.specs.Steps.{all_rows, StepHolds, StepsHold, IsCombination, AreMet}
+use Rattle.lin_rows.specs.Ring.{≤ℤ-from_<ℤ}
 use Rattle.lin_rows.specs.RowLaws.{meets-sum, false_row}
-
--- the rows that have a number are met
-abbrev pub AreMet : ℤ → (ℕ → ℤ) → List (Option Row) → Type 0
-AreMet q x rows = (i : ℕ) (r : Row) → slice_get rows i ≡ Some (Some r) → Meets q x r
 
 pub get-push : {X : Type 0} (xs : List X) (y z : X) (i : ℕ) → slice_get (xs ++ y ∷ []) i ≡ Some z → (slice_get xs i ≡ Some z) ⊎ (y ≡ z)
 get-push [] y z zero e = inr (cc)
@@ -26,10 +23,7 @@ met-push q x rows r met one i s e = elim (get-push rows (Some r) (Some s) i e) [
 
 met_step : (q : ℤ) (x : ℕ → ℤ) (lower : List (Option Row)) (s : ComboStep) → AreMet q x lower → StepHolds lower s → Meets q x s.row
 met_step q x lower s met h =
-    meets-sum q s.by_left s.by_right x h.left h.right s.row (less_le s.by_left h.by_left) h.by_right h.sum (met s.left h.left h.at_left) (met s.right h.right h.at_right)
-  where
-    less_le : (z : ℤ) → pos 0 <ℤ z → pos 0 ≤ℤ z
-    less_le z h = omega (arith, ints)
+    meets-sum q s.by_left s.by_right x h.left h.right s.row (≤ℤ-from_<ℤ s.by_left h.by_left) h.by_right h.sum (met s.left h.left h.at_left) (met s.right h.right h.at_right)
 
 -- the row of the last step is met where the rows handed in are
 pub met_last : (q : ℤ) (x : ℕ → ℤ) (lower : List (Option Row)) (first : List ComboStep) (last : ComboStep) → AreMet q x lower → StepsHold lower (first ++ last ∷ []) → Meets q x last.row
@@ -42,6 +36,15 @@ pub refuted : (q : ℤ) (x : ℕ → ℤ) (rows : List (Option Row)) (steps : Li
 refuted q x rows steps h positive met =
     let (first, last, is, false_) = h.ends_false in
     false_row q x last.row positive false_ (met_last q x rows first last met (subst (StepsHold rows) is h.steps_hold))
+
+-- rows that all have numbers
+pub met-rows : (q : ℤ) (x : ℕ → ℤ) (rows : List Row) → All (Meets q x) rows → AreMet q x (map Some rows)
+met-rows q x [] met i s e = absurd (cc)
+met-rows q x (r ∷ rows) met zero s e =
+    let same : r ≡ s = cc in
+    subst (Meets q x) same (All-head (Meets q x) r rows met)
+met-rows q x (r ∷ rows) met (suc i) s e =
+    met-rows q x rows (All-tail (Meets q x) r rows met) i s e
 
 -- one step more, over all rows before it
 pub steps-push : (lower : List (Option Row)) (ss : List ComboStep) (s : ComboStep) → StepsHold lower ss → StepHolds (all_rows lower ss) s → StepsHold lower (ss ++ s ∷ [])

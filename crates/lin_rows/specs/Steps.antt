@@ -1,8 +1,8 @@
 -- Combinations of rows, whose last row can't be met.
-use Rattle.std.specs.Prelude.{◌≡◌, ℤ, pos, ◌<ℤ◌, ◌≤ℤ◌, List, [], ◌∷◌, ◌++◌, Option, Some, map, slice_get}
+use Rattle.std.specs.Prelude.{◌≡◌, ℕ, ℤ, pos, ◌<ℤ◌, ◌≤ℤ◌, List, [], ◌∷◌, ◌++◌, Option, Some, map, slice_get}
 use Rattle.lin_rows.specs.declared.row.Row.{Row}
 use Rattle.lin_rows.specs.declared.step.ComboStep.{ComboStep}
-use Rattle.lin_rows.specs.Rows.{IsSum, SumFits}
+use Rattle.lin_rows.specs.Rows.{Meets, IsSum, NumbersFit}
 
 -- The step is the sum of two rows of lower numbers, with a positive left multiplier and a right one
 -- that is positive or 0. A number below it may also have no row.
@@ -13,7 +13,7 @@ pub record StepHolds (lower : List (Option Row)) (s : ComboStep) : Type 0 where
   pub at_right : slice_get lower s.right ≡ Some (Some right)
   pub by_left : pos 0 <ℤ s.by_left
   pub by_right : pos 0 ≤ℤ s.by_right
-  pub fits : SumFits s.by_left s.by_right left right
+  pub fits : NumbersFit s.by_left s.by_right left right
   pub sum : IsSum s.by_left s.by_right left right s.row
 
 -- the rows handed in, and then those of the steps
@@ -37,3 +37,7 @@ EndsFalse steps = (first : List ComboStep) × (last : ComboStep) × (steps ≡ f
 pub record IsCombination (rows : List (Option Row)) (steps : List ComboStep) : Type 0 where
   pub steps_hold : StepsHold rows steps
   pub ends_false : EndsFalse steps
+
+-- each row that has a number is met
+abbrev pub AreMet : ℤ → (ℕ → ℤ) → List (Option Row) → Type 0
+AreMet q x rows = (i : ℕ) (r : Row) → slice_get rows i ≡ Some (Some r) → Meets q x r

@@ -1,11 +1,12 @@
 -- Laws of linear forms.
 use Rattle.std.specs.Prelude.{◌≡◌, ◌≢◌, ℕ, zero, suc, ◌+◌, ◌<◌, ◌≤◌, eqb, cond, true, false, ℤ, pos, ◌+ℤ◌, ◌*ℤ◌, List, [], ◌∷◌, ◌++◌, All, refl}
 use Rattle.std.proofs.Common.{sym, ap, ◌∙◌, subst, arith}
+use Rattle.std.proofs.Math.IntN.{+ℤ_assoc}
 use Rattle.std.proofs.lemmas.Int.{ints}
 use Rattle.std.proofs.lemmas.Bool.Decides.{nat_tests}
 use Rattle.std.proofs.lemmas.List.Elements.{All-head, All-tail}
 use Rattle.lin_rows.specs.Terms.{IsAbove, IsNormal, coef_at, value_at}
-use Rattle.lin_rows.specs.Ring.{+ℤ-*ℤ, regroup, spread}
+use Rattle.lin_rows.specs.Ring.{+ℤ-*ℤ, +ℤ-none, regroup, spread}
 
 -- a number is another or not
 pub at_or_not : {P : Type 0} (w v : ℕ) → (w ≡ v → P) → (w ≢ v → P) → P
@@ -30,11 +31,8 @@ coef-miss v w x ts n = miss v w (x +ℤ coef_at ts v) (coef_at ts v) n
 pub coef-append : (ts us : List (ℕ × ℤ)) (v : ℕ) → coef_at (ts ++ us) v ≡ coef_at ts v +ℤ coef_at us v
 coef-append [] us v = omega (arith, ints)
 coef-append (t ∷ ts) us v = at_or_not v t.0
-    (λ e. coef-hit v t.0 t.1 (ts ++ us) e ∙ ap (λ z. t.1 +ℤ z) (coef-append ts us v) ∙ sym (assoc t.1 (coef_at ts v) (coef_at us v)) ∙ ap (λ z. z +ℤ coef_at us v) (sym (coef-hit v t.0 t.1 ts e)))
+    (λ e. coef-hit v t.0 t.1 (ts ++ us) e ∙ ap (λ z. t.1 +ℤ z) (coef-append ts us v) ∙ sym (+ℤ_assoc t.1 (coef_at ts v) (coef_at us v)) ∙ ap (λ z. z +ℤ coef_at us v) (sym (coef-hit v t.0 t.1 ts e)))
     (λ n. coef-miss v t.0 t.1 (ts ++ us) n ∙ coef-append ts us v ∙ ap (λ z. z +ℤ coef_at us v) (sym (coef-miss v t.0 t.1 ts n)))
-  where
-    assoc : (a b c : ℤ) → (a +ℤ b) +ℤ c ≡ a +ℤ (b +ℤ c)
-    assoc a b c = omega (arith, ints)
 
 -- a variable below all of those of the terms
 pub coef-below : (n : ℕ) (ts : List (ℕ × ℤ)) (v : ℕ) → IsAbove n ts → v < n → coef_at ts v ≡ pos 0
@@ -46,10 +44,7 @@ coef-below n (t ∷ ts) v h lt =
 -- the first variable
 pub coef-first : (v w : ℕ) (x : ℤ) (ts : List (ℕ × ℤ)) → v ≡ w → IsAbove (w + 1) ts → coef_at ((w, x) ∷ ts) v ≡ x
 coef-first v w x ts e h =
-    coef-hit v w x ts e ∙ ap (λ z. x +ℤ z) (coef-below (w + 1) ts v h (omega arith)) ∙ plus_none x
-  where
-    plus_none : (z : ℤ) → z +ℤ pos 0 ≡ z
-    plus_none z = omega (arith, ints)
+    coef-hit v w x ts e ∙ +ℤ-none x (coef_at ts v) (coef-below (w + 1) ts v h (omega arith))
 
 pub above_less : (m n : ℕ) (ts : List (ℕ × ℤ)) → m ≤ n → IsAbove n ts → IsAbove m ts
 above_less m n [] le h = tt
@@ -104,16 +99,13 @@ sum-one (suc n) x f g v c lt more same = at_or_not n v
     (λ e.
     let rest = sum-same n x f g (λ w below. same w (λ q. absurd (omega arith))) in
     let here : f n ≡ c +ℤ g n = ap f e ∙ more ∙ ap (λ w. c +ℤ g w) (sym e) in
-    ap (λ z. z *ℤ x n +ℤ sum_below n x f) here ∙ ap (λ z. (c +ℤ g n) *ℤ x n +ℤ z) rest ∙ ap (λ z. z +ℤ sum_below n x g) (+ℤ-*ℤ c (g n) (x n)) ∙ assoc (c *ℤ x n) (g n *ℤ x n) (sum_below n x g) ∙ ap (λ w. c *ℤ x w +ℤ (g n *ℤ x n +ℤ sum_below n x g)) e)
+    ap (λ z. z *ℤ x n +ℤ sum_below n x f) here ∙ ap (λ z. (c +ℤ g n) *ℤ x n +ℤ z) rest ∙ ap (λ z. z +ℤ sum_below n x g) (+ℤ-*ℤ c (g n) (x n)) ∙ +ℤ_assoc (c *ℤ x n) (g n *ℤ x n) (sum_below n x g) ∙ ap (λ w. c *ℤ x w +ℤ (g n *ℤ x n +ℤ sum_below n x g)) e)
     (λ h.
     let rest = sum-one n x f g v c (below n v lt h) more same in
     ap (λ z. z *ℤ x n +ℤ sum_below n x f) (same n h) ∙ ap (λ z. g n *ℤ x n +ℤ z) rest ∙ swap_in (g n *ℤ x n) (c *ℤ x v) (sum_below n x g))
   where
     below : (n v : ℕ) → v < suc n → n ≢ v → v < n
     below n v lt h = omega arith
-
-    assoc : (a b c : ℤ) → (a +ℤ b) +ℤ c ≡ a +ℤ (b +ℤ c)
-    assoc a b c = omega (arith, ints)
 
     swap_in : (a b c : ℤ) → a +ℤ (b +ℤ c) ≡ b +ℤ (a +ℤ c)
     swap_in a b c = omega (arith, ints)

@@ -3,6 +3,8 @@ use Rattle.std.specs.Prelude.{◌≡◌, ◌≢◌, ℕ, ◌+◌, ◌≤◌, ◌
 use Rattle.std.specs.Int.{w128}
 use Rattle.lin_rows.specs.declared.row.Row.{Row}
 use Rattle.lin_rows.specs.declared.point.Point.{Point}
+use Rattle.lin_rows.specs.declared.wide.WidePoint.{WidePoint}
+use Rattle.lin_rows.specs.declared.wide.WidePoint.TheVariants as points
 use Rattle.lin_rows.specs.Terms.{coef_at, value_at}
 use Rattle.lin_rows.specs.Lowest.{IsWideElimination}
 use Rattle.lin_rows.specs.Derived.{Derived, Occurs}
@@ -72,3 +74,9 @@ pub record IsWideBound (rows : List Row) (p : Point) (r : Row) (v : ℕ) : Type 
   pub after : IsPointFrom rows (v + 1) p
   pub way : IsOnTheWay rows p
   pub wide : Any IsWide (numbers_back p r v) ⊎ ((p' : Point) × IsPointFrom rows v p' × Extends p r v p' × HasWideNumber p')
+
+-- the wide points of rows; a form is none
+abbrev pub IsWidePointOf : List Row → WidePoint → Type 0
+IsWidePointOf rows (points.Pair a b v) = IsWidePair rows a b v
+IsWidePointOf rows (points.Bound p r v) = IsWideBound rows p r v
+IsWidePointOf rows (points.Form place) = ⊥

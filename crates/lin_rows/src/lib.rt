@@ -15,7 +15,10 @@ mod wide;
 pub use combination::combine;
 pub use elimination::eliminate;
 pub use fault::RowFault;
-pub use laws::{combinations_refute, eliminations_cancel, sums_are_met, sums_are_unique};
+pub use laws::{
+    combinations_refute, derived_rows_are_met, eliminations_cancel, reduced_units_are_least,
+    sums_are_met, sums_are_unique,
+};
 pub use point::Point;
 pub use row::Row;
 pub use step::ComboStep;
