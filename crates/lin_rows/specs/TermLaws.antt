@@ -67,14 +67,14 @@ same_above n [] ((w, y) ∷ us) p q same = absurd (q.1 (sym (same w ∙ coef-fir
 same_above n ((v, x) ∷ ts) [] p q same = absurd (p.1 (sym (coef-first v v x ts refl p.2) ∙ same v))
 same_above n ((v, x) ∷ ts) ((w, y) ∷ us) p q same =
     at_or_not v w
-        (λ e.
-        let one : x ≡ y = sym (coef-first v v x ts refl p.2) ∙ same v ∙ coef-first v w y us e q.2 in
-        let rest : ts ≡ us = same_above (v + 1) ts us p.2 (above_less (v + 1) (w + 1) us (omega arith) q.2) (λ u. at_or_not u v
-        (λ f. coef-below (v + 1) ts u p.2 (omega arith) ∙ sym (coef-below (w + 1) us u q.2 (omega arith)))
-        (λ g. sym (coef-miss u v x ts g) ∙ same u ∙ coef-miss u w y us (λ f. g (f ∙ sym e)))) in
-        cc)
-        (λ g. absurd (apart (v + 1) (w + 1) (λ lt. p.1 (sym (coef-first v v x ts refl p.2) ∙ same v ∙ coef-miss v w y us g ∙ coef-below (w + 1) us v q.2 (omega arith)))
-        (λ lt. q.1 (sym (coef-first w w y us refl q.2) ∙ sym (same w) ∙ coef-miss w v x ts (λ f. g (sym f)) ∙ coef-below (v + 1) ts w p.2 (omega arith))) (λ e. g (omega arith))))
+    (λ e.
+    let one : x ≡ y = sym (coef-first v v x ts refl p.2) ∙ same v ∙ coef-first v w y us e q.2 in
+    let rest : ts ≡ us = same_above (v + 1) ts us p.2 (above_less (v + 1) (w + 1) us (omega arith) q.2) (λ u. at_or_not u v
+    (λ f. coef-below (v + 1) ts u p.2 (omega arith) ∙ sym (coef-below (w + 1) us u q.2 (omega arith)))
+    (λ g. sym (coef-miss u v x ts g) ∙ same u ∙ coef-miss u w y us (λ f. g (f ∙ sym e)))) in
+    cc)
+    (λ g. absurd (apart (v + 1) (w + 1) (λ lt. p.1 (sym (coef-first v v x ts refl p.2) ∙ same v ∙ coef-miss v w y us g ∙ coef-below (w + 1) us v q.2 (omega arith)))
+    (λ lt. q.1 (sym (coef-first w w y us refl q.2) ∙ sym (same w) ∙ coef-miss w v x ts (λ f. g (sym f)) ∙ coef-below (v + 1) ts w p.2 (omega arith))) (λ e. g (omega arith))))
   where
     apart : (m n : ℕ) → (m < n → ⊥) → (n < m → ⊥) → (m ≡ n → ⊥) → ⊥
     apart m n p q r = r (omega arith)

@@ -4,7 +4,9 @@ use std::alloc::Global;
 use std::test::Fail;
 
 const MIN: i128 = i128::MIN;
+
 const MAX: i128 = i128::MAX;
+
 const HALF: i128 = 1 << 126;
 
 // The row of these terms, in any order.
@@ -36,13 +38,55 @@ fn eliminated(alloc: Global, a: &Row, b: &Row, var: u32) -> Option<Result<Row, R
 fn elimination_cancels_with_the_lowest_multipliers(rt: HostRuntime) -> Result<(), Fail> {
     let alloc = rt.alloc();
     for (a, b, var, terms, bound) in [
-        (([(0, 2), (1, 3)], 4), ([(0, -4), (1, 1)], 0), 0, [(1, 7)].as_slice(), 8),
-        (([(0, 6), (1, 1)], 1), ([(0, -9), (1, 1)], 1), 0, [(1, 5)].as_slice(), 5),
-        (([(5, 1), (2, 1)], 1), ([(2, -1), (5, -1)], -2), 5, [].as_slice(), -1),
-        (([(3, 1), (1, 5)], 0), ([(3, -1), (7, 2)], 0), 3, [(1, 5), (7, 2)].as_slice(), 0),
-        (([(0, MAX), (1, 0)], MAX), ([(0, -MAX), (1, 4)], 0), 0, [(1, 4)].as_slice(), MAX),
-        (([(0, 1), (1, MIN)], MIN), ([(0, -1), (1, 0)], 0), 0, [(1, MIN)].as_slice(), MIN),
-        (([(0, HALF), (1, 2)], 1), ([(0, -HALF), (1, -1)], 1), 0, [(1, 1)].as_slice(), 2),
+        (
+            ([(0, 2), (1, 3)], 4),
+            ([(0, -4), (1, 1)], 0),
+            0,
+            [(1, 7)].as_slice(),
+            8,
+        ),
+        (
+            ([(0, 6), (1, 1)], 1),
+            ([(0, -9), (1, 1)], 1),
+            0,
+            [(1, 5)].as_slice(),
+            5,
+        ),
+        (
+            ([(5, 1), (2, 1)], 1),
+            ([(2, -1), (5, -1)], -2),
+            5,
+            [].as_slice(),
+            -1,
+        ),
+        (
+            ([(3, 1), (1, 5)], 0),
+            ([(3, -1), (7, 2)], 0),
+            3,
+            [(1, 5), (7, 2)].as_slice(),
+            0,
+        ),
+        (
+            ([(0, MAX), (1, 0)], MAX),
+            ([(0, -MAX), (1, 4)], 0),
+            0,
+            [(1, 4)].as_slice(),
+            MAX,
+        ),
+        (
+            ([(0, 1), (1, MIN)], MIN),
+            ([(0, -1), (1, 0)], 0),
+            0,
+            [(1, MIN)].as_slice(),
+            MIN,
+        ),
+        (
+            ([(0, HALF), (1, 2)], 1),
+            ([(0, -HALF), (1, -1)], 1),
+            0,
+            [(1, 1)].as_slice(),
+            2,
+        ),
     ] {
         let left = row(alloc, a.0.as_slice(), a.1).map_err(|_| "no left row")?;
         let right = row(alloc, b.0.as_slice(), b.1).map_err(|_| "no right row")?;
@@ -62,12 +106,36 @@ fn elimination_cancels_with_the_lowest_multipliers(rt: HostRuntime) -> Result<()
 fn elimination_is_wide_where_a_number_leaves_128_bits(rt: HostRuntime) -> Result<(), Fail> {
     let alloc = rt.alloc();
     for (a, b, number) in [
-        (([(0, 1), (1, 0)], 0), ([(0, MIN), (1, 0)], 0), "a multiplier"),
-        (([(0, 2), (1, 0)], 0), ([(0, MIN), (1, 0)], 0), "a product with the variable"),
-        (([(0, 3), (1, MAX)], 0), ([(0, -2), (1, 0)], 0), "a product with a coefficient"),
-        (([(0, 3), (1, 1)], 0), ([(0, -2), (1, 0)], MIN), "a product with a bound"),
-        (([(0, 1), (1, MAX)], 0), ([(0, -1), (1, 1)], 0), "a sum of coefficients"),
-        (([(0, 1), (1, 0)], MIN), ([(0, -1), (1, 0)], -1), "a sum of bounds"),
+        (
+            ([(0, 1), (1, 0)], 0),
+            ([(0, MIN), (1, 0)], 0),
+            "a multiplier",
+        ),
+        (
+            ([(0, 2), (1, 0)], 0),
+            ([(0, MIN), (1, 0)], 0),
+            "a product with the variable",
+        ),
+        (
+            ([(0, 3), (1, MAX)], 0),
+            ([(0, -2), (1, 0)], 0),
+            "a product with a coefficient",
+        ),
+        (
+            ([(0, 3), (1, 1)], 0),
+            ([(0, -2), (1, 0)], MIN),
+            "a product with a bound",
+        ),
+        (
+            ([(0, 1), (1, MAX)], 0),
+            ([(0, -1), (1, 1)], 0),
+            "a sum of coefficients",
+        ),
+        (
+            ([(0, 1), (1, 0)], MIN),
+            ([(0, -1), (1, 0)], -1),
+            "a sum of bounds",
+        ),
     ] {
         let left = row(alloc, a.0.as_slice(), a.1).map_err(|_| "no left row")?;
         let right = row(alloc, b.0.as_slice(), b.1).map_err(|_| "no right row")?;
