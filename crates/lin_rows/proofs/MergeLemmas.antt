@@ -1,11 +1,10 @@
 -- The steps through two lists of terms.
-use Rattle.std.specs.Prelude.{◌≡◌, ◌≢◌, ℕ, ◌+◌, ◌-◌, ◌≤◌, ◌<◌, ℤ, pos, negsuc, ◌+ℤ◌, ◌*ℤ◌, List, [], ◌∷◌, ◌++◌, length, take, drop, get_or, ◌↔◌, FitsSigned, refl}
+use Rattle.std.specs.Prelude.{◌≡◌, ◌≢◌, ℕ, ◌+◌, ◌-◌, ◌≤◌, ◌<◌, ℤ, pos, ◌+ℤ◌, ◌*ℤ◌, List, [], ◌∷◌, ◌++◌, length, take, drop, get_or, ◌↔◌, FitsSigned, refl}
 use Rattle.std.specs.Int.{w128}
-use Rattle.std.proofs.Common.{sym, ap, ◌∙◌, subst, arith, append_assoc, append-nil}
+use Rattle.std.proofs.Common.{sym, ap, ◌∙◌, subst, arith, append_assoc}
 use Rattle.std.proofs.Math.IntN.{+ℤ_assoc}
 use Rattle.std.proofs.lemmas.Int.{ints}
 use Rattle.std.proofs.lemmas.Grind.{common_steps}
-use borrow.Author.Differences.{up}
 use Rattle.lin_rows.specs.Terms.{IsAbove, IsNormal, coef_at}
 use Rattle.lin_rows.specs.Rows.{MixFits}
 use Rattle.lin_rows.specs.Merging.{IsLeast, TakesLeast}

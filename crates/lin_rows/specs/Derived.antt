@@ -1,5 +1,5 @@
 -- The rows that elimination derives from rows, its variables taken in ascending order.
-use Rattle.std.specs.Prelude.{◌≡◌, ◌≢◌, ℕ, ◌+◌, ℤ, pos, ◌<ℤ◌, List, Contains}
+use Rattle.std.specs.Prelude.{◌≡◌, ◌≢◌, ℕ, ◌+◌, pos, ◌<ℤ◌, List, Contains}
 use Rattle.lin_rows.specs.declared.row.Row.{Row}
 use Rattle.lin_rows.specs.Terms.{coef_at}
 use Rattle.lin_rows.specs.Lowest.{IsElimination}

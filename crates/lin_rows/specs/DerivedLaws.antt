@@ -1,10 +1,10 @@
 -- Laws of derived rows.
-use Rattle.std.specs.Prelude.{◌≡◌, ℕ, ◌+◌, ◌<◌, ℤ, pos, ◌+ℤ◌, ◌*ℤ◌, ◌<ℤ◌, ◌≤ℤ◌, List, All}
-use Rattle.std.proofs.Common.{sym, ap, ◌∙◌, arith}
+use Rattle.std.specs.Prelude.{◌≡◌, ℕ, ◌<◌, ℤ, pos, List, All}
+use Rattle.std.proofs.Common.{ap, ◌∙◌, arith}
 use Rattle.std.proofs.lemmas.List.Elements.{All-contains}
 use Rattle.lin_rows.specs.declared.row.Row.{Row}
 use Rattle.lin_rows.specs.Terms.{coef_at}
-use Rattle.lin_rows.specs.Rows.{Meets, IsSum}
+use Rattle.lin_rows.specs.Rows.{Meets}
 use Rattle.lin_rows.specs.Lowest.{IsElimination}
 use Rattle.lin_rows.specs.Derived.{Derived, given, kept, summed}
 use Rattle.lin_rows.specs.Ring.{mixed-none, ≤ℤ-from_<ℤ}

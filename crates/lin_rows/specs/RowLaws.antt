@@ -3,7 +3,7 @@ use Rattle.std.specs.Prelude.{◌≡◌, ℕ, ◌+◌, ◌*◌, ◌<◌, ℤ, po
 use Rattle.std.proofs.Common.{sym, ap, ◌∙◌, subst, arith}
 use Rattle.std.proofs.lemmas.Int.{ints}
 use Rattle.lin_rows.specs.declared.row.Row.{Row}
-use Rattle.lin_rows.specs.Terms.{IsNormal, coef_at, value_at}
+use Rattle.lin_rows.specs.Terms.{IsNormal, value_at}
 use Rattle.lin_rows.specs.Rows.{Meets, IsSum}
 use Rattle.lin_rows.specs.Steps.{IsFalse}
 use Rattle.lin_rows.specs.Ring.{spread, *ℤ-≤ℤ, +ℤ-≤ℤ}

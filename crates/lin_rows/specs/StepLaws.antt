@@ -1,6 +1,6 @@
 -- Laws of combinations.
-use Rattle.std.specs.Prelude.{◌≡◌, ℕ, zero, suc, ℤ, pos, ◌<ℤ◌, ◌≤ℤ◌, List, [], ◌∷◌, ◌++◌, Option, Some, ◌⊎◌, map, slice_get, All}
-use Rattle.std.proofs.Common.{sym, ap, ◌∙◌, subst, inl, inr, arith, append_assoc, append-nil}
+use Rattle.std.specs.Prelude.{◌≡◌, ℕ, zero, suc, ℤ, pos, ◌≤ℤ◌, List, [], ◌∷◌, ◌++◌, Option, Some, ◌⊎◌, map, slice_get, All}
+use Rattle.std.proofs.Common.{sym, subst, inl, inr, append_assoc, append-nil}
 use Rattle.std.proofs.lemmas.List.Elements.{All-head, All-tail}
 use Rattle.lin_rows.specs.declared.row.Row.{Row}
 use Rattle.lin_rows.specs.declared.step.ComboStep.{ComboStep}

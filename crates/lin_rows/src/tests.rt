@@ -90,14 +90,10 @@ fn elimination_cancels_with_the_lowest_multipliers(rt: HostRuntime) -> Result<()
     ] {
         let left = row(alloc, a.0.as_slice(), a.1).map_err(|_| "no left row")?;
         let right = row(alloc, b.0.as_slice(), b.1).map_err(|_| "no right row")?;
-        match eliminated(alloc, &left, &right, var) {
-            Some(Ok(sum)) => {
-                assert_eq!(rt; sum.coefs.as_slice(), terms, "x{var}");
-                assert_eq!(rt; sum.bound, bound, "x{var}");
-            }
-            Some(Err(fault)) => assert_eq!(rt; fault, RowFault::OutOfMemory, "x{var} is wide"),
-            None => assert!(rt; false, "x{var} has one sign"),
-        }
+        let answer = eliminated(alloc, &left, &right, var).ok_or("one sign")?;
+        let sum = answer.map_err(|_| "no sum")?;
+        assert_eq!(rt; sum.coefs.as_slice(), terms, "x{var}");
+        assert_eq!(rt; sum.bound, bound, "x{var}");
     }
     Ok(())
 }

@@ -1,8 +1,7 @@
-use Rattle.std.specs.Prelude.{◌≡◌, ◌≢◌, ℤ, pos, ◌+◌, ◌+ℤ◌, ◌*ℤ◌, ◌∷◌, ◌++◌, [], FitsSigned}
+use Rattle.std.specs.Prelude.{◌≡◌, ℤ, pos, ◌+◌, FitsSigned}
 use Rattle.std.specs.Int.{w128}
-use Rattle.std.proofs.Common.{rules, sym, ap, ◌∙◌, subst, to_z, of_z}
+use Rattle.std.proofs.Common.{rules, sym, ap, ◌∙◌, to_z, of_z}
 use Rattle.std.proofs.lemmas.Int.{to_z-of_z}
-use Rattle.lin_rows.specs.Rows.{MixFits}
 use Rattle.lin_rows.proofs.MergeLemmas.{mixes_in_order, mixes_one, mixes_none, mixes_wide, mixes_last, mixes_fit}
 use Rattle.lin_rows.proofs.combination.combine.Goals as goal
 use Rattle.lin_rows.proofs.combination.combine.Goals.{then-coef-ne0+in_ok-push, else-coef-ne0}

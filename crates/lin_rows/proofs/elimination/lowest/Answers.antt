@@ -1,9 +1,9 @@
-use Rattle.std.specs.Prelude.{◌≡◌, ℕ, ℤ, pos, negsuc, ◌/◌, ◌<◌, ◌<ℤ◌, FitsSigned, unsigned_abs, Option, Some, None, Result, Ok, Err}
+use Rattle.std.specs.Prelude.{◌≡◌, ℕ, ℤ, pos, negsuc, ◌/◌, ◌<◌, ◌<ℤ◌, FitsSigned, unsigned_abs, Some, None, Result, Ok, Err}
 use Rattle.std.specs.Int.{w128, IsGcd}
 use Rattle.std.specs.Result.{OkIff, result_ok}
-use Rattle.std.proofs.Common.{rules, arith, sym, ap, ◌∙◌, subst}
+use Rattle.std.proofs.Common.{rules, arith, sym, ◌∙◌}
 use Rattle.std.proofs.lemmas.Int.{to_z-of_z, ints}
-use Rattle.lin_rows.specs.Lowest.{IsLowest, HasWideLowest}
+use Rattle.lin_rows.specs.Lowest.{IsLowest}
 use Rattle.lin_rows.specs.LowestLaws.{gcd_positive, lowest_of_gcd}
 use Rattle.lin_rows.proofs.elimination.lowest.Goals as goal
 

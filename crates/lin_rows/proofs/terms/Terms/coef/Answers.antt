@@ -1,6 +1,6 @@
-use Rattle.std.specs.Prelude.{◌≡◌, ℕ, ℤ, pos, ◌+◌, ◌<◌, ◌∷◌, List, length, drop, get_or, FitsSigned, refl}
+use Rattle.std.specs.Prelude.{◌≡◌, ℕ, ℤ, pos, ◌∷◌, List, drop, get_or, FitsSigned}
 use Rattle.std.specs.Int.{w128}
-use Rattle.std.proofs.Common.{rules, arith, sym, ap, subst, ◌∙◌}
+use Rattle.std.proofs.Common.{rules, sym, ap, subst, ◌∙◌}
 use Rattle.std.proofs.lemmas.Int.{to_z-of_z}
 use Rattle.std.proofs.lemmas.List.{drop_more}
 use Rattle.lin_rows.specs.Terms.{IsAbove, coef_at}
