@@ -1,6 +1,6 @@
 -- Laws of derived rows.
-use Rattle.std.specs.Prelude.{◌≡◌, ℕ, ◌<◌, ℤ, pos, List, All}
-use Rattle.std.proofs.Common.{ap, ◌∙◌, arith}
+use Rattle.std.specs.Prelude.{◌≡◌, ℕ, zero, suc, ◌+◌, ◌<◌, ℤ, pos, List, All}
+use Rattle.std.proofs.Common.{sym, ap, subst, ◌∙◌, arith}
 use Rattle.std.proofs.lemmas.List.Elements.{All-contains}
 use Rattle.lin_rows.specs.declared.row.Row.{Row}
 use Rattle.lin_rows.specs.Terms.{coef_at}
@@ -32,3 +32,22 @@ derived-below rows _ r (kept v _ d none) w lt = at_or_not w v
 derived-below rows _ r (summed v a b _ d e above below (k, l, low, sum)) w lt = at_or_not w v
     (λ f. ap (coef_at r.coefs) f ∙ sum.coefs v ∙ low.cancels.none)
     (λ n. sum.coefs w ∙ mixed-none k l (coef_at a.coefs w) (coef_at b.coefs w) (derived-below rows v a d w (omega arith)) (derived-below rows v b e w (omega arith)))
+
+-- nor one that none of the rows has
+pub derived-absent : (rows : List Row) (v : ℕ) (r : Row) (w : ℕ) → All (λ s. coef_at s.coefs w ≡ pos 0) rows → Derived rows v r → coef_at r.coefs w ≡ pos 0
+derived-absent rows _ r w none (given _ there) = All-contains (λ s. coef_at s.coefs w ≡ pos 0) rows r none there
+derived-absent rows _ r w none (kept v _ d zero_) = derived-absent rows v r w none d
+derived-absent rows _ r w none (summed v a b _ d e above below (k, l, low, sum)) =
+    sum.coefs w ∙ mixed-none k l (coef_at a.coefs w) (coef_at b.coefs w) (derived-absent rows v a w none d) (derived-absent rows v b w none e)
+
+-- a derived row is derived before each later variable up to its first
+pub derived-later : (rows : List Row) (v n : ℕ) (r : Row) → Derived rows v r → ((w : ℕ) → w < v + n → coef_at r.coefs w ≡ pos 0) → Derived rows (v + n) r
+derived-later rows v zero r d none = subst (λ u. Derived rows u r) (sym (plus_zero v)) d
+  where
+    plus_zero : (v : ℕ) → v + 0 ≡ v
+    plus_zero v = omega arith
+derived-later rows v (suc n) r d none =
+    subst (λ u. Derived rows u r) (plus_suc v n) (kept (v + n) r (derived-later rows v n r d (λ w lt. none w (omega arith))) (none (v + n) (omega arith)))
+  where
+    plus_suc : (v n : ℕ) → v + n + 1 ≡ v + suc n
+    plus_suc v n = omega arith

@@ -16,16 +16,16 @@ pub record StepHolds (lower : List (Option Row)) (s : ComboStep) : Type 0 where
   pub fits : NumbersFit s.by_left s.by_right left right
   pub sum : IsSum s.by_left s.by_right left right s.row
 
--- the rows handed in, and then those of the steps
-abbrev pub all_rows : List (Option Row) → List ComboStep → List (Option Row)
-all_rows rows steps = rows ++ map (λ s. Some s.row) steps
-
 -- so is each of the steps, which are numbered in order after the rows handed in
 abbrev pub StepsHold : List (Option Row) → List ComboStep → Type 0
 StepsHold lower [] = Unit {0}
 StepsHold lower (s ∷ ss) = StepHolds lower s × StepsHold (lower ++ Some s.row ∷ []) ss
 
--- the row says that a negative number is at least 0
+-- the rows handed in, and then those of the steps
+abbrev pub all_rows : List (Option Row) → List ComboStep → List (Option Row)
+all_rows rows steps = rows ++ map (λ s. Some s.row) steps
+
+-- the row says that 0 is at most a negative number
 abbrev pub IsFalse : Row → Type 0
 IsFalse r = (r.coefs ≡ []) × (r.bound <ℤ pos 0)
 

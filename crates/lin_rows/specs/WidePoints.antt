@@ -18,8 +18,8 @@ pub record IsWidePair (rows : List Row) (a b : Row) (v : ℕ) : Type 0 where
   pub negative : coef_at b.coefs v <ℤ pos 0
   pub wide : IsWideElimination v a b
 
--- at the point the row holds with equality, which is the bound that it gives for the least variable
--- that it has from the values of the later ones
+-- The row holds at the point with equality: the least variable that it has is at the bound that the row
+-- gives from the values of the later ones.
 abbrev pub IsTight : Point → Row → Type 0
 IsTight p r = value_at (valuation p.values) r.coefs ≡ r.bound *ℤ p.q
 
@@ -33,33 +33,32 @@ pub record IsPointFrom (rows : List Row) (n : ℕ) (p : Point) : Type 0 where
   pub unit : HasLeastUnit p
 
 -- each value is 0, or the bound that a row derived before its variable gives
-abbrev pub IsOnTheWay : List Row → Point → Type 0
-IsOnTheWay rows p = All (λ t. (t.1 ≡ pos 0) ⊎ IsBound rows p t.0) p.values
+abbrev pub HasDerivedValues : List Row → Point → Type 0
+HasDerivedValues rows p = All (λ t. (t.1 ≡ pos 0) ⊎ IsBound rows p t.0) p.values
 
 -- the products of a row's coefficients after `v` with the values, in the order of the variables
 abbrev pub products_after : ℕ → Row → (ℕ → ℤ) → List ℤ
 products_after v r x = map (λ t. t.1 *ℤ x t.0) (filter (λ t. nat_lt v t.0) r.coefs)
 
--- what is left of a number as others are taken from it one by one
-abbrev pub left_of : ℤ → List ℤ → List ℤ
-left_of z [] = z ∷ []
-left_of z (y ∷ ys) = z ∷ left_of (z -ℤ y) ys
+-- a number, and what is left of it as others are taken away one by one
+abbrev pub rests_of : ℤ → List ℤ → List ℤ
+rests_of z [] = z ∷ []
+rests_of z (y ∷ ys) = z ∷ rests_of (z -ℤ y) ys
 
--- The products of the way back to `v`, and their sums. The products are those of each coefficient after
--- `v` with its variable's value and of the bound with the unit, which make up the bound on `v`. The sums
--- are those that the way back takes: the bound's product less the first of the others, in the order of
--- the variables.
+-- The products that make up the bound on `v`, and their sums. The products are those of each coefficient
+-- after `v` with the value of its variable, and that of the row's bound with the unit. A sum is that last
+-- product, less the first of the others, any number of them, in the order of the variables.
 abbrev pub numbers_back : Point → Row → ℕ → List ℤ
 numbers_back p r v =
     let products = products_after v r (valuation p.values) in
-    products ++ left_of (r.bound *ℤ p.q) products
+    products ++ rests_of (r.bound *ℤ p.q) products
 
 -- `p'` is the point with the bound that the row gives for `v`, in the new least unit
 pub record Extends (p : Point) (r : Row) (v : ℕ) (p' : Point) : Type 0 where
   pub same : (u : ℕ) → v < u → valuation p'.values u *ℤ p.q ≡ valuation p.values u *ℤ p'.q
   pub bound : IsTight p' r
 
--- a number is outside 128 bits
+-- the number is outside 128 bits
 abbrev pub IsWide : ℤ → Type 0
 IsWide z = ¬ (FitsSigned w128 z)
 
@@ -72,7 +71,7 @@ pub record IsWideBound (rows : List Row) (p : Point) (r : Row) (v : ℕ) : Type 
   pub derived : Derived rows v r
   pub has : coef_at r.coefs v ≢ pos 0
   pub after : IsPointFrom rows (v + 1) p
-  pub way : IsOnTheWay rows p
+  pub way : HasDerivedValues rows p
   pub wide : Any IsWide (numbers_back p r v) ⊎ ((p' : Point) × IsPointFrom rows v p' × Extends p r v p' × HasWideNumber p')
 
 -- the wide points of rows; a form is none
