@@ -44,6 +44,13 @@ terms-preserved c =
           (n.var + 1, rw (w.coefs-is) (mixes_none _ _ _ _ low c.terms.coefs _ _ n.var n.left n.right _ _ c.in-Some.ensures.least here (sym none ∙ is) mixes))
     ]
 
+pub returns-in-None-clause-wide : goal.returns-in-None-clause-wide
+returns-in-None-clause-wide c same fits =
+    let fa : FitsSigned w128 c.args.a.now.bound = search rules in
+    let fb : FitsSigned w128 c.args.b.now.bound = search rules in
+    let wide = rw (to_z-of_z w128 c.args.by_left c.ranges.by_left, to_z-of_z w128 c.args.by_right c.ranges.by_right, to_z-of_z w128 c.args.a.now.bound fa, to_z-of_z w128 c.args.b.now.bound fb) at c.in-None.ensures in
+    wide fits.bound
+
 pub returns-in-Some-mix-2-clause-sum : goal.returns-in-Some-mix-2-clause-sum
 returns-in-Some-mix-2-clause-sum c =
     let (low, mixes) = c.terms.invariant in
