@@ -1,0 +1,15 @@
+pub mod Terms
+pub mod Rows
+pub mod Lowest
+pub mod Derived
+pub mod Steps
+pub mod Points
+pub mod WidePoints
+pub mod Merging
+pub mod Ring
+pub mod TermLaws
+pub mod RowLaws
+pub mod DerivedLaws
+pub mod StepLaws
+pub mod UnitLaws
+pub mod LowestLaws
