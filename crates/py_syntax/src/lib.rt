@@ -7,15 +7,19 @@
 mod assertion;
 mod copy;
 mod expr;
+mod item;
 mod module;
 mod stmt;
 mod ty;
+mod value;
 
 pub use assertion::{Assertion, AtomForm};
 pub use expr::{Expr, ExprForm, Instance};
+pub use item::{Gives, Item, Way};
 pub use module::{Class, ClassSort, Field, Method, Module, Pred};
 pub use stmt::{FieldName, Operator, PrintArg, Stmt, StmtForm};
 pub use ty::Ty;
+pub use value::Value;
 
 #[cfg(test)]
 mod tests;

@@ -1,0 +1,16 @@
+pub mod Results
+pub mod Operators
+pub mod Heap
+pub mod Evaluation
+pub mod Reading
+pub mod Duties
+pub mod Moments
+pub mod Frames
+pub mod Calls
+pub mod Sharing
+pub mod Printing
+pub mod Items
+pub mod Steps
+pub mod Stuck
+pub mod Race
+pub mod Safe
