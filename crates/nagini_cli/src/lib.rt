@@ -1,0 +1,4 @@
+//! The commands of the program, over files and an output that are handed in.
+#![tactic(auto)]
+
+mod small_run;
