@@ -1,2 +1,5 @@
 pub mod SmallRun
 pub mod SmallBody
+pub mod Texts
+pub mod Statuses
+pub mod Replies
