@@ -1,2 +1,5 @@
 pub mod Reach
 pub mod Written
+pub mod Small
+pub mod Answered
+pub mod Told

@@ -3,3 +3,5 @@ pub mod SmallBody
 pub mod Texts
 pub mod Statuses
 pub mod Replies
+pub mod Commands
+pub mod Answers

@@ -1,6 +1,7 @@
 //! The commands of the program, over files and an output that are handed in.
 #![tactic(auto)]
 
+mod check;
 mod reply;
 mod small_run;
 mod status;

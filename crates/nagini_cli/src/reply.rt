@@ -3,7 +3,7 @@ ghost use Rattle.std.specs.Prelude.{◌≡◌, ◌≢◌, ◌++◌, false, IfOk,
 ghost use Rattle.std.specs.Io.KnownBytes.{Appends};
 ghost use Rattle.io_edge.specs.Outside.{AppendsPart, Rose};
 ghost use Rattle.io_edge.specs.declared.SinkAnswer.{SinkAnswer};
-ghost use Rattle.nagini_cli.specs.Replies.{text_of};
+ghost use Rattle.nagini_cli.specs.Replies.{Says, text_of};
 ghost use Rattle.nagini_cli.specs.Statuses.{IsQuiet, IsCutShort};
 
 use crate::status::{NO_MEMORY, WRITE_FAULT};
@@ -21,8 +21,7 @@ pub struct Reply {
 impl Reply {
     /// A reply of one line.
     pub fn one(alloc: Global, status: u8, line: String) -> Result<Reply, AllocError>
-        ensures status { IfOk result (λ reply. reply.status ≡ status) }
-        ensures text { IfOk result (λ reply. text_of reply ≡ string_bytes line) }
+        ensures { IfOk result (λ r. Says r status (string_bytes line)) }
     {
         Ok(Reply {
             status,
@@ -37,8 +36,7 @@ impl Reply {
         first: String,
         second: String,
     ) -> Result<Reply, AllocError>
-        ensures status { IfOk result (λ reply. reply.status ≡ status) }
-        ensures text { IfOk result (λ reply. text_of reply ≡ string_bytes first ++ string_bytes second) }
+        ensures { IfOk result (λ r. Says r status (string_bytes first ++ string_bytes second)) }
     {
         Ok(Reply {
             status,
