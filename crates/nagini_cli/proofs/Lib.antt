@@ -3,3 +3,4 @@ pub mod Written
 pub mod Small
 pub mod Answered
 pub mod Told
+pub mod Replied

@@ -2,7 +2,10 @@
 #![tactic(auto)]
 
 mod check;
+mod command;
 mod reply;
 mod small_run;
 mod status;
 mod texts;
+
+pub use command::nagini;
