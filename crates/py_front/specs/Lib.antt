@@ -2,3 +2,4 @@ pub mod TextLines
 pub mod SmallForms
 pub mod SmallText
 pub mod Answers
+pub mod Reading

@@ -1,5 +1,5 @@
 -- Small texts, the module that each spells, and the line at which a text stops to be one. A small text is the function `main` with 1 to 60 small statements, one a line; lines that are passed over may stand anywhere.
-use Rattle.std.specs.Prelude.{◌≡◌, ◌⊎◌, ◌+◌, ◌≤◌, ◌<◌, ℕ, suc, List, [], ◌∷◌, ◌++◌, length, take, replicate, Option, None, IsTrue, false, codes}
+use Rattle.std.specs.Prelude.{◌≡◌, ◌⊎◌, ◌+◌, ◌≤◌, ◌<◌, ℕ, suc, List, [], ◌∷◌, ◌++◌, length, take, replicate, None, IsTrue, false, codes}
 use Rattle.py_base.specs.declared.Place.{Place}
 use Rattle.py_syntax.specs.declared.Ty.TheVariants.{Int, Void}
 use Rattle.py_syntax.specs.declared.Stmt.{Stmt}

@@ -1,0 +1,9 @@
+pub mod Numbers
+pub mod FirstLine
+pub mod Pieces
+pub mod Positions
+pub mod Found
+pub mod Again
+pub mod Body
+pub mod Ends
+pub mod Faults
