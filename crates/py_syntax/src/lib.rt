@@ -5,6 +5,7 @@
 #![tactic(auto)]
 
 mod assertion;
+mod copy;
 mod expr;
 mod module;
 mod stmt;
@@ -15,3 +16,6 @@ pub use expr::{Expr, ExprForm, Instance};
 pub use module::{Class, ClassSort, Field, Method, Module, Pred};
 pub use stmt::{PrintArg, Stmt, StmtForm};
 pub use ty::Ty;
+
+#[cfg(test)]
+mod tests;
