@@ -28,7 +28,7 @@ no_fault : (m : Module) (fault : FrontFault) → ErrOrNoMemory (Ok m) fault → 
 no_fault m fault (inl e) = cc
 no_fault m fault (inr e) = cc
 
-answers_verdict : (bytes : List ℕ) (m : Module) (place : Option Place) (status : ℕ) (text : List ℕ) → length bytes ≤ FILE_LIMIT → Spells bytes m → first_false m ≡ place → IsVerdict place status text → Answers bytes status text
+pub answers_verdict : (bytes : List ℕ) (m : Module) (place : Option Place) (status : ℕ) (text : List ℕ) → length bytes ≤ FILE_LIMIT → Spells bytes m → first_false m ≡ place → IsVerdict place status text → Answers bytes status text
 answers_verdict bytes m None status text within spelled is v = accepted within m spelled is v.0 v.1
 answers_verdict bytes m (Some place) status text within spelled is v = not_proved within m place spelled is v.0 v.1
 
@@ -40,7 +40,7 @@ same_verdict (Some p) (Some q) status s text t e v w =
     let same : p ≡ q = cc in
     (v.0 ∙ sym w.0, v.1 ∙ ap report_text same ∙ sym w.1)
 
-only_verdict : (bytes : List ℕ) (m : Module) (status : ℕ) (text : List ℕ) → length bytes ≤ FILE_LIMIT → Spells bytes m → Front bytes (Ok m) → IsVerdict (first_false m) status text → (s : ℕ) (t : List ℕ) → Answers bytes s t → (status ≡ s) × (text ≡ t)
+pub only_verdict : (bytes : List ℕ) (m : Module) (status : ℕ) (text : List ℕ) → length bytes ≤ FILE_LIMIT → Spells bytes m → Front bytes (Ok m) → IsVerdict (first_false m) status text → (s : ℕ) (t : List ℕ) → Answers bytes s t → (status ≡ s) × (text ≡ t)
 only_verdict bytes m status text within spelled front v s t (too_long long a b) = absurd (omega arith)
 only_verdict bytes m status text within spelled front v s t (no_main _ skipped a b) = absurd (no_fault m _ (front.no_main skipped))
 only_verdict bytes m status text within spelled front v s t (not_built _ i stops a b) = absurd (stops.not_small m spelled)
@@ -55,7 +55,7 @@ the_place : (p q : Place) → ErrOrNoMemory (Err (NotBuilt p)) (NotBuilt q) → 
 the_place p q (inl e) = cc
 the_place p q (inr e) = cc
 
-only_not_built : (bytes : List ℕ) (place : Place) (status : ℕ) (text : List ℕ) → length bytes ≤ FILE_LIMIT → Front bytes (Err (NotBuilt place)) → (i : ℕ) → StopsAt bytes i → status ≡ REFUSED → text ≡ refusal_line (codes "NotBuilt") place → (s : ℕ) (t : List ℕ) → Answers bytes s t → (status ≡ s) × (text ≡ t)
+pub only_not_built : (bytes : List ℕ) (place : Place) (status : ℕ) (text : List ℕ) → length bytes ≤ FILE_LIMIT → Front bytes (Err (NotBuilt place)) → (i : ℕ) → StopsAt bytes i → status ≡ REFUSED → text ≡ refusal_line (codes "NotBuilt") place → (s : ℕ) (t : List ℕ) → Answers bytes s t → (status ≡ s) × (text ≡ t)
 only_not_built bytes place status text within front i stops x y s t (too_long long a b) = absurd (omega arith)
 only_not_built bytes place status text within front i stops x y s t (no_main _ skipped a b) = absurd (stops.not_skipped skipped)
 only_not_built bytes place status text within front i stops x y s t (not_built _ j other a b) = (x ∙ sym a, y ∙ ap (refusal_line (codes "NotBuilt")) (the_place place (line_start (1 + j)) (front.not_built j other)) ∙ sym b)

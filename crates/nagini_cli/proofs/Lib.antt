@@ -4,3 +4,4 @@ pub mod Small
 pub mod Answered
 pub mod Told
 pub mod Replied
+pub mod OneAnswer

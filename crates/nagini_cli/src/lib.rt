@@ -3,9 +3,11 @@
 
 mod check;
 mod command;
+mod laws;
 mod reply;
 mod small_run;
 mod status;
 mod texts;
 
 pub use command::nagini;
+pub use laws::a_file_has_one_answer;
