@@ -1,5 +1,5 @@
 -- What the top call answers, by the reply of `check` and how it is written.
-use Rattle.std.proofs.Common.{◌≡◌, ◌≢◌, ℕ, List, [], Option, None, Some, IfSome, Result, Ok, Err, IfOk, IsErr, sym, subst, refl, ◌∙◌}
+use Rattle.std.proofs.Common.{◌≡◌, ◌≢◌, ℕ, List, [], Option, None, Some, IfSome, Result, Ok, Err, IfOk, IsErr, sym, subst, refl, ◌∙◌, ◌⊎◌, inl, inr, arith}
 use Rattle.std.specs.Prelude.{IsOkAnd}
 use Rattle.std.specs.Io.KnownBytes.{Appends}
 use Rattle.io_edge.specs.Outside.{Held, held_at, AppendsPart}
@@ -11,22 +11,19 @@ use Rattle.nagini_cli.specs.Commands.{Check, command_of}
 use Rattle.nagini_cli.specs.Replies.{text_of, Says}
 use Rattle.nagini_cli.specs.Statuses.{IsQuiet, IsAnswered}
 use Rattle.nagini_cli.specs.Texts.{read_fault_line, usage_line}
-use Rattle.nagini_cli.proofs.Written.{Appends-nil, AppendsPart-nil}
 
 pub whole_of : (reply : Result Reply OutOfMemory) (words : List (List ℕ)) (held : Option Held) (name : List ℕ) (status : ℕ) (old new : Option (List ℕ)) → command_of words ≡ Some (Check name) → IfOk reply (λ r. ChecksFile held name r.status (text_of r)) → IsOkAnd reply (λ r. (status ≡ r.status) × Appends old new (text_of r)) → (text : List ℕ) × Allowed words held status text × Appends old new text
 whole_of (Err fault) words held name status old new is checks said = absurd said
 whole_of (Ok r) words held name status old new is checks said = (text_of r, check name is (subst (λ s. ChecksFile held name s (text_of r)) (sym said.0) checks), said.1)
 
-unchanged : (old new : Option (List ℕ)) (text : List ℕ) → new ≡ old → AppendsPart old new text
-unchanged old new text e = subst (λ known. AppendsPart old known text) (sym e) (AppendsPart-nil old old text (Appends-nil old))
+-- what is written of a reply that is cut short; F is promised with a read fault
+pub part_of : (F : Type 0) (reply : Result Reply OutOfMemory) (words : List (List ℕ)) (held : Option Held) (name : List ℕ) (old new : Option (List ℕ)) → command_of words ≡ Some (Check name) → IfOk reply (λ r. ChecksFile held name r.status (text_of r)) → IfOk reply (λ r. r.status ≡ READ_FAULT → F) → IfOk reply (λ r. AppendsPart old new (text_of r)) → (IsErr reply → new ≡ old) → (new ≡ old) ⊎ ((status : ℕ) × (text : List ℕ) × Allowed words held status text × AppendsPart old new text × (status ≡ READ_FAULT → F))
+part_of F (Ok r) words held name old new is checks fault part nothing = inr (r.status, text_of r, check name is checks, part, fault)
+part_of F (Err none) words held name old new is checks fault part nothing = inl (nothing refl)
 
-pub part_of : (reply : Result Reply OutOfMemory) (words : List (List ℕ)) (held : Option Held) (name : List ℕ) (old new : Option (List ℕ)) → command_of words ≡ Some (Check name) → IfOk reply (λ r. ChecksFile held name r.status (text_of r)) → IfOk reply (λ r. AppendsPart old new (text_of r)) → (IsErr reply → new ≡ old) → (status : ℕ) × (text : List ℕ) × Allowed words held status text × AppendsPart old new text
-part_of (Ok r) words held name old new is checks part nothing = (r.status, text_of r, check name is checks, part)
-part_of (Err fault) words held name old new is checks part nothing = (READ_FAULT, read_fault_line name, check name is (read_fault refl refl), unchanged old new (read_fault_line name) (nothing refl))
-
-pub usage_part_of : (reply : Result Reply OutOfMemory) (words : List (List ℕ)) (held : Option Held) (old new : Option (List ℕ)) → command_of words ≡ None → IfOk reply (λ r. Says r USAGE usage_line) → IfOk reply (λ r. AppendsPart old new (text_of r)) → (IsErr reply → new ≡ old) → (status : ℕ) × (text : List ℕ) × Allowed words held status text × AppendsPart old new text
-usage_part_of (Ok r) words held old new is says part nothing = (r.status, text_of r, usage is says.status_is says.text_is, part)
-usage_part_of (Err fault) words held old new is says part nothing = (USAGE, usage_line, usage is refl refl, unchanged old new usage_line (nothing refl))
+pub usage_part_of : (F : Type 0) (reply : Result Reply OutOfMemory) (words : List (List ℕ)) (held : Option Held) (old new : Option (List ℕ)) → command_of words ≡ None → IfOk reply (λ r. Says r USAGE usage_line) → IfOk reply (λ r. AppendsPart old new (text_of r)) → (IsErr reply → new ≡ old) → (new ≡ old) ⊎ ((status : ℕ) × (text : List ℕ) × Allowed words held status text × AppendsPart old new text × (status ≡ READ_FAULT → F))
+usage_part_of F (Ok r) words held old new is says part nothing = inr (r.status, text_of r, usage is says.status_is says.text_is, part, λ e. absurd (omega (arith, e, says.status_is)))
+usage_part_of F (Err none) words held old new is says part nothing = inl (nothing refl)
 
 pub told_of : (reply : Result Reply OutOfMemory) (words : List (List ℕ)) (held : Option Held) (name bytes : List ℕ) (status : ℕ) (old new : Option (List ℕ)) → command_of words ≡ Some (Check name) → IfOk reply (λ r. r.status ≢ READ_FAULT → IfSome held (λ files. (bytes : List ℕ) → held_at files name ≡ Some bytes → IsAnswer bytes r.status (text_of r))) → IsOkAnd reply (λ r. (status ≡ r.status) × Appends old new (text_of r)) → AsksFor words held bytes → status ≢ READ_FAULT → (text : List ℕ) × IsAnswer bytes status text × Appends old new text
 told_of (Err fault) words held name bytes status old new is told said asks no_fault = absurd said

@@ -6,19 +6,11 @@ use Rattle.std.proofs.Math.Seq.{take-append-add}
 use Rattle.std.specs.Io.KnownBytes.{Appends}
 use Rattle.io_edge.specs.Outside.{AppendsPart}
 
-pub Appends-nil : (known : Option (List ℕ)) → Appends known known []
-Appends-nil None = tt
-Appends-nil (Some xs) = sym (append-nil xs)
-
 pub Appends-append : (old mid new : Option (List ℕ)) (xs ys : List ℕ) → Appends old mid xs → Appends mid new ys → Appends old new (xs ++ ys)
 Appends-append None mid new xs ys a b = tt
 Appends-append (Some os) None new xs ys a b = absurd a
 Appends-append (Some os) (Some ms) None xs ys a b = absurd b
 Appends-append (Some os) (Some ms) (Some ns) xs ys a b = b ∙ ap (λ zs. zs ++ ys) a ∙ append_assoc os xs ys
-
--- nothing is a part of each text
-pub AppendsPart-nil : (old new : Option (List ℕ)) (text : List ℕ) → Appends old new [] → AppendsPart old new text
-AppendsPart-nil old new text a = (0, omega arith, a)
 
 -- a part of a piece, with what was written before it, is a part of the whole
 pub AppendsPart-append : (old mid new : Option (List ℕ)) (xs ys zs : List ℕ) → Appends old mid xs → AppendsPart mid new ys → AppendsPart old new (xs ++ (ys ++ zs))

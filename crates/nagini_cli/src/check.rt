@@ -76,11 +76,11 @@ fn refuse(alloc: Global, name: &str, place: Place) -> Result<Reply, OutOfMemory>
 }
 
 // What is said of a small module.
-fn verdict(alloc: Global, module: &Module) -> Result<Reply, OutOfMemory>
-    requires { IsSmallModule module.now }
-    ensures { IfOk result (λ r. IsVerdict (small_run.first_false module.now) r.status (text_of r)) }
+fn verdict(alloc: Global, small_module: &Module) -> Result<Reply, OutOfMemory>
+    requires { IsSmallModule small_module.now }
+    ensures { IfOk result (λ r. IsVerdict (small_run.first_false small_module.now) r.status (text_of r)) }
 {
-    match first_false(alloc, module)? {
+    match first_false(alloc, small_module)? {
         None => Ok(Reply::one(alloc, ACCEPTED, accepted_line(alloc, 1)?)?),
         Some(place) => report(alloc, place),
     }

@@ -27,18 +27,22 @@ use std::alloc::Global;
 /// memory may come in place of any answer.
 pub fn nagini<F: Files, O: Sink>(alloc: Global, words: &[String], files: &mut F, out: &mut O) -> u8
     // What is answered is allowed for the words and the files that are held. Where memory is missing
-    // or a write fails, a front of such a text is written.
+    // or a write fails, nothing is written or a front of such a text, and the text of a read fault
+    // only where a read failed.
     ensures whole { IsQuiet result → (text : List ℕ)
         × Allowed (map string_bytes words.now) (F.held files.old) result text
         × Appends (O.written out.old) (O.written out.new) text }
-    ensures part { IsCutShort result → (status : ℕ) × (text : List ℕ)
+    ensures part { IsCutShort result → (O.written out.new ≡ O.written out.old)
+        ⊎ ((status : ℕ) × (text : List ℕ)
         × Allowed (map string_bytes words.now) (F.held files.old) status text
-        × AppendsPart (O.written out.old) (O.written out.new) text }
+        × AppendsPart (O.written out.old) (O.written out.new) text
+        × (status ≡ READ_FAULT → Rose (F.faults files.old) (F.faults files.new))) }
 
     // Words that are no command, and no others, are answered by the usage line.
     ensures usage { result ≡ USAGE → command_of (map string_bytes words.now) ≡ None }
     ensures no_command { command_of (map string_bytes words.now) ≡ None → IsQuiet result →
         (result ≡ USAGE) × Appends (O.written out.old) (O.written out.new) texts.usage_line }
+    ensures unread { command_of (map string_bytes words.now) ≡ None → files.new ≡ files.old }
 
     // A read fault is told where the read of the command's file failed, and only there.
     ensures read_fault { result ≡ READ_FAULT → (file : List ℕ)

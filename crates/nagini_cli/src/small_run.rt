@@ -9,11 +9,11 @@ use std::alloc::Global;
 
 /// The place of the first assert of `main` that is false, where its statements are read from the
 /// first to the last.
-pub fn first_false(alloc: Global, module: &Module) -> Result<Option<Place>, OutOfMemory>
-    requires { IsSmallModule module.now }
-    ensures { IfOk result (λ place. place ≡ small_run.first_false module.now) }
+pub fn first_false(alloc: Global, small_module: &Module) -> Result<Option<Place>, OutOfMemory>
+    requires { IsSmallModule small_module.now }
+    ensures { IfOk result (λ place. place ≡ small_run.first_false small_module.now) }
 {
-    match module.methods.get(module.main as usize) {
+    match small_module.methods.get(small_module.main as usize) {
         Some(main) => first_false_of(alloc, main),
         None => Ok(None),
     }

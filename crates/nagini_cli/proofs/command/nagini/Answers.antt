@@ -1,4 +1,5 @@
 use Rattle.std.proofs.Common.{sym, refl, arith}
+use Rattle.std.proofs.lemmas.Result.{IfOk-weaker}
 use Rattle.nagini_cli.specs.Answers.{no_main, not_built, accepted, not_proved}
 use Rattle.nagini_cli.proofs.Replied.{whole_of, part_of, usage_part_of, read_fault_of, row_of}
 use Rattle.nagini_cli.proofs.command.nagini.Goals as goal
@@ -9,7 +10,7 @@ returns-in-Some-clause-whole g c = λ quiet.
 
 pub returns-in-Some-clause-part : goal.returns-in-Some-clause-part
 returns-in-Some-clause-part g c = λ cut.
-    part_of c.check.result _ _ c.in-Some.file.now _ _ (sym c.in-Some.ensures) c.check.ensures.whole (c.finish.ensures.part cut) c.finish.ensures.nothing
+    part_of _ c.check.result _ _ c.in-Some.file.now _ _ (sym c.in-Some.ensures) c.check.ensures.whole (IfOk-weaker c.check.result _ _ (λ r promised is. (promised is).0) c.check.ensures.read_fault) (c.finish.ensures.part cut) c.finish.ensures.nothing
 
 pub returns-in-Some-clause-read_fault : goal.returns-in-Some-clause-read_fault
 returns-in-Some-clause-read_fault g c = λ is.
@@ -34,4 +35,4 @@ returns-in-Some-clause-reports g c = λ bytes m place asks is_answered within sp
 
 pub returns-in-None-clause-part : goal.returns-in-None-clause-part
 returns-in-None-clause-part g c = λ cut.
-    usage_part_of c.usage.result _ _ _ _ (sym c.in-None.ensures) c.usage.ensures (c.finish-in-None.ensures.part cut) c.finish-in-None.ensures.nothing
+    usage_part_of _ c.usage.result _ _ _ _ (sym c.in-None.ensures) c.usage.ensures (c.finish-in-None.ensures.part cut) c.finish-in-None.ensures.nothing

@@ -12,5 +12,5 @@ returns-in-Err-clause-part g c =
     let rest : List ℕ = flat_map string_bytes (drop (c.loop-line.line-index + 1) c.args.lines.now) in
     let piece : AppendsPart mid new (string_bytes c.line-item.result) = subst (λ bytes. AppendsPart mid new bytes) c.as_bytes.ensures.value c.in-Err.ensures.part in
     subst (λ text. AppendsPart old new text)
-        (sym (flat_map-at string_bytes c.args.lines.now c.loop-line.line-index c.line-item.result (omega arith) c.line-item.is))
-        (AppendsPart-append old mid new before (string_bytes c.line-item.result) rest c.loop-line.invariant.0 piece)
+    (sym (flat_map-at string_bytes c.args.lines.now c.loop-line.line-index c.line-item.result (omega arith) c.line-item.is))
+    (AppendsPart-append old mid new before (string_bytes c.line-item.result) rest c.loop-line.invariant.0 piece)

@@ -21,6 +21,7 @@ pub loop-stmt-preserved : goal.loop-stmt-preserved
 loop-stmt-preserved c =
     let small : IsSmallStmt c.stmt-item.result = search rules in
     let not_false : is_false c.stmt-item.result c.loop-stmt.locals ≡ false = cc in
-    rw c.run.ensures
-        (sym (passed c.args.body.now c.loop-stmt.stmt-index c.stmt-item.result c.loop-stmt.locals (omega arith, c.stmt-item.is) not_false) ∙ c.loop-stmt.invariant.0,
-         reach-after c.loop-stmt.stmt-index c.loop-stmt.locals c.stmt-item.result small c.loop-stmt.invariant.1)
+    rw c.run.ensures (
+      sym (passed c.args.body.now c.loop-stmt.stmt-index c.stmt-item.result c.loop-stmt.locals (omega arith, c.stmt-item.is) not_false) ∙ c.loop-stmt.invariant.0,
+      reach-after c.loop-stmt.stmt-index c.loop-stmt.locals c.stmt-item.result small c.loop-stmt.invariant.1,
+    )
