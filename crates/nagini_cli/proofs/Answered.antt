@@ -1,17 +1,17 @@
 -- The one answer to the bytes of a file, by what the front says of them.
-use Rattle.std.proofs.Common.{◌≡◌, ◌⊎◌, ℕ, ◌+◌, ◌≤◌, ◌<◌, List, length, Option, None, Some, Result, Ok, Err, sym, ap, subst, ◌∙◌, refl, inl, inr, arith}
+use Rattle.std.proofs.Common.{◌≡◌, ℕ, ◌+◌, ◌≤◌, List, length, Option, None, Some, Result, Ok, Err, sym, ap, ◌∙◌, refl, inl, inr, arith}
 use Rattle.std.specs.Prelude.{codes}
 use Rattle.py_base.specs.declared.Place.{Place}
 use Rattle.py_syntax.specs.declared.Module.{Module}
 use Rattle.py_front.specs.declared.FrontFault.{FrontFault}
-use Rattle.py_front.specs.declared.FrontFault.TheVariants.{NoMain, NotBuilt, OutOfMemory}
+use Rattle.py_front.specs.declared.FrontFault.TheVariants.{NoMain, NotBuilt}
 use Rattle.py_front.specs.TextLines.{lines_of, AreSkipped}
 use Rattle.py_front.specs.SmallText.{Spells, StopsAt, line_start, end_of}
 use Rattle.py_front.specs.Answers.{OkOrNoMemory, ErrOrNoMemory}
 use Rattle.nagini_cli.specs.SmallRun.{first_false}
-use Rattle.nagini_cli.specs.Texts.{refusal_line, accepted_line}
+use Rattle.nagini_cli.specs.Texts.{refusal_line}
 use Rattle.nagini_cli.specs.Answers.{Answers, too_long, no_main, not_built, accepted, not_proved, IsAnswer, IsVerdict, report_text}
-use Rattle.nagini_cli.specs.declared.status.TheConstants.{ACCEPTED, NOT_PROVED, REFUSED}
+use Rattle.nagini_cli.specs.declared.status.TheConstants.{REFUSED}
 use Rattle.nagini_cli.specs.declared.check.TheConstants.{FILE_LIMIT}
 
 -- what the front promises of its answer, for each text

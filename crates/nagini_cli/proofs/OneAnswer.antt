@@ -4,7 +4,7 @@ use Rattle.std.specs.Prelude.{codes}
 use Rattle.std.proofs.lemmas.Bool.{cases_lt}
 use Rattle.py_base.specs.declared.Place.{Place}
 use Rattle.py_syntax.specs.declared.Module.{Module}
-use Rattle.py_front.specs.declared.FrontFault.TheVariants.{NoMain, NotBuilt}
+use Rattle.py_front.specs.declared.FrontFault.TheVariants.{NotBuilt}
 use Rattle.py_front.specs.TextLines.{lines_of, AreSkipped}
 use Rattle.py_front.specs.SmallText.{Spells, StopsAt, line_start, end_of}
 use Rattle.nagini_cli.specs.SmallRun.{first_false}
@@ -12,7 +12,7 @@ use Rattle.nagini_cli.specs.Texts.{limit_line, refusal_line}
 use Rattle.nagini_cli.specs.Answers.{Answers, too_long, no_main, not_built, accepted, not_proved, IsVerdict}
 use Rattle.nagini_cli.specs.declared.status.TheConstants.{LIMIT, REFUSED}
 use Rattle.nagini_cli.specs.declared.check.TheConstants.{FILE_LIMIT}
-use Rattle.nagini_cli.proofs.Answered.{Front, only_verdict, only_not_built, answers_verdict}
+use Rattle.nagini_cli.proofs.Answered.{Front, only_verdict, only_not_built}
 
 -- what the definition of small texts says of each text
 pub record TextLaws : Type 0 where

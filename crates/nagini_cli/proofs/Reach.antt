@@ -1,13 +1,12 @@
 -- How far from 0 the values of a small function are.
-use Rattle.std.proofs.Common.{◌≡◌, ◌∙◌, refl, ap, subst, sym, ℕ, suc, ◌+◌, ◌*◌, ◌^◌, ◌≤◌, ◌<◌, List, length, Bool, true, false, cond, eqb, ℤ, pos, ◌+ℤ◌, ◌-ℤ◌, Option, Some, None, get_or, replicate, inl, inr, lit<, arith}
+use Rattle.std.proofs.Common.{◌≡◌, ◌∙◌, ℕ, ◌+◌, ◌≤◌, List, length, true, false, cond, eqb, ℤ, pos, ◌+ℤ◌, ◌-ℤ◌, replicate, inl, inr, lit<, arith}
 use Rattle.std.proofs.Math.Nat.{mul-le-mul_left, pow-le-pow_right}
 use Rattle.std.proofs.lemmas.Bool.{cases_lt}
 use Rattle.std.proofs.lemmas.List.{get_or_past}
-use Rattle.std.specs.List.{All}
 use Rattle.std.proofs.lemmas.Int.{ints}
 use Rattle.std.proofs.lemmas.Grind.{common_steps}
 use Rattle.std.proofs.lemmas.List.Elements.{All-set, All-weaker, All-get_or, All-replicate}
-use Rattle.py_syntax.specs.declared.Expr.{Expr, out-Expr, fold-Expr, fold_out-Expr}
+use Rattle.py_syntax.specs.declared.Expr.{Expr, out-Expr, fold_out-Expr}
 use Rattle.py_syntax.specs.declared.ExprForm.{ExprForm, ExprForm-F, out-ExprForm, fold-ExprForm, map-ExprForm, fold_out-ExprForm}
 use Rattle.py_syntax.specs.declared.Instance.{Instance, fold-Instance}
 use Rattle.py_syntax.specs.declared.Stmt.{Stmt, out-Stmt}

@@ -1,12 +1,12 @@
 -- What the top call answers, by the reply of `check` and how it is written.
-use Rattle.std.proofs.Common.{◌≡◌, ◌≢◌, ℕ, List, [], Option, None, Some, IfSome, Result, Ok, Err, IfOk, IsErr, sym, subst, refl, ◌∙◌, ◌⊎◌, inl, inr, arith}
+use Rattle.std.proofs.Common.{◌≡◌, ◌≢◌, ℕ, List, Option, None, Some, IfSome, Result, Ok, Err, IfOk, IsErr, sym, subst, refl, ◌∙◌, ◌⊎◌, inl, inr, arith}
 use Rattle.std.specs.Prelude.{IsOkAnd}
 use Rattle.std.specs.Io.KnownBytes.{Appends}
 use Rattle.io_edge.specs.Outside.{Held, held_at, AppendsPart}
 use Rattle.py_base.specs.declared.OutOfMemory.{OutOfMemory}
 use Rattle.nagini_cli.specs.declared.reply.Reply.{Reply}
 use Rattle.nagini_cli.specs.declared.status.TheConstants.{READ_FAULT, USAGE}
-use Rattle.nagini_cli.specs.Answers.{Answers, ChecksFile, read_fault, Allowed, usage, check, AsksFor, IsAnswer}
+use Rattle.nagini_cli.specs.Answers.{Answers, ChecksFile, Allowed, usage, check, AsksFor, IsAnswer}
 use Rattle.nagini_cli.specs.Commands.{Check, command_of}
 use Rattle.nagini_cli.specs.Replies.{text_of, Says}
 use Rattle.nagini_cli.specs.Statuses.{IsQuiet, IsAnswered}

@@ -1,5 +1,5 @@
 -- A module that a text spells is small.
-use Rattle.std.proofs.Common.{◌≡◌, ◌⊎◌, ℕ, zero, suc, ◌+◌, ◌-◌, ◌*◌, ◌^◌, ◌≤◌, ◌<◌, Bool, true, false, List, [], ◌∷◌, length, ℤ, pos, IsTrue, nat_le, nat_lt, ◌==◌, ◌&&◌, ◌||◌, not, slice_index, subst, sym, ap, ◌∙◌, inl, inr, lit<, fold, arith}
+use Rattle.std.proofs.Common.{◌≡◌, ℕ, suc, ◌+◌, ◌-◌, ◌*◌, ◌^◌, ◌≤◌, ◌<◌, List, [], ◌∷◌, length, ℤ, pos, IsTrue, nat_le, nat_lt, ◌==◌, ◌&&◌, ◌||◌, not, slice_index, subst, sym, ap, ◌∙◌, inl, inr, lit<, fold, arith}
 use Rattle.std.proofs.lemmas.Int.{ints}
 use Rattle.std.proofs.Math.Nat.{mul-le-mul_right, pow-le-pow_right, pow-succ', mul_assoc}
 use Rattle.std.proofs.lemmas.Bool.{and_parts, leb-true}
@@ -12,13 +12,13 @@ use Rattle.py_syntax.specs.declared.ExprForm.TheVariants.{Num, Local, Bin}
 use Rattle.py_syntax.specs.declared.Instance.{Instance}
 use Rattle.py_syntax.specs.declared.PrintArg.{PrintArg}
 use Rattle.py_syntax.specs.declared.Stmt.{Stmt}
-use Rattle.py_syntax.specs.declared.StmtForm.{StmtForm, StmtForm-F, out-StmtForm, the_lemmas as stmt_lemmas}
+use Rattle.py_syntax.specs.declared.StmtForm.{StmtForm-F, out-StmtForm, the_lemmas as stmt_lemmas}
 use Rattle.py_syntax.specs.declared.StmtForm.TheVariants.{Pass, Store, Check, Print}
 use Rattle.py_syntax.specs.declared.Module.{Module}
-use Rattle.py_front.specs.TextLines.{lines_of, is_skipped, AreSkipped}
-use Rattle.py_front.specs.SmallForms.{is_digit, is_number, number_value, SpellsOperand, spells_number, spells_local, SpellsSum, SpellsExpr, spells_operand, spells_plus, spells_minus, SpellsStmt, spells_pass, spells_store, spells_check, spells_print}
+use Rattle.py_front.specs.TextLines.{lines_of}
+use Rattle.py_front.specs.SmallForms.{is_digit, is_number, number_value, SpellsOperand, spells_number, spells_local, SpellsExpr, spells_operand, spells_plus, spells_minus, SpellsStmt, spells_pass, spells_store, spells_check, spells_print}
 use Rattle.py_front.specs.SmallText.{SpellsBody, SpellsMain, SpellsFrom, Spells}
-use Rattle.nagini_cli.specs.SmallBody.{IsWithin, IsOperandForm, IsOperand, IsSmallForm, IsSmall, IsEquation, IsSmallStmt, IsSmallMethod, IsSmallModule}
+use Rattle.nagini_cli.specs.SmallBody.{IsWithin, IsOperandForm, IsOperand, IsSmallForm, IsSmall, IsSmallStmt, IsSmallModule}
 
 -- a number of so many digits, of which the first digits write n
 folded : (n : ℕ) (bytes : List ℕ) → IsTrue (list_all is_digit bytes) → fold (λ n b. n * 10 + (b - 48)) n bytes < (n + 1) * 10 ^ length bytes

@@ -1,5 +1,5 @@
 -- Pieces that are appended one after another.
-use Rattle.std.proofs.Common.{◌≡◌, ◌∙◌, sym, ap, ℕ, ◌+◌, ◌≤◌, Option, Some, None, List, [], ◌++◌, append_assoc, append-nil, length, take, length-append, arith, ◌<◌, drop, get_or, flat_map}
+use Rattle.std.proofs.Common.{◌≡◌, ◌∙◌, sym, ap, ℕ, ◌+◌, ◌≤◌, Option, Some, None, List, ◌++◌, append_assoc, length, take, length-append, arith, ◌<◌, drop, get_or, flat_map}
 use Rattle.std.proofs.lemmas.List.{take-append-le, take-append-drop, at_drop_more}
 use Rattle.std.proofs.lemmas.List.Concat.{flat_map-append}
 use Rattle.std.proofs.Math.Seq.{take-append-add}

@@ -6,7 +6,7 @@ use Rattle.py_syntax.specs.declared.Module.{Module}
 use Rattle.py_front.specs.TextLines.{lines_of, AreSkipped}
 use Rattle.py_front.specs.SmallText.{Spells, StopsAt, line_start, end_of}
 use Rattle.io_edge.specs.Outside.{Held, held_at}
-use Rattle.nagini_cli.specs.Commands.{Command, Check, command_of}
+use Rattle.nagini_cli.specs.Commands.{Check, command_of}
 use Rattle.nagini_cli.specs.SmallRun.{first_false}
 use Rattle.nagini_cli.specs.Texts.{usage_line, limit_line, read_fault_line, refusal_line, accepted_line, fault_line, not_proved_line}
 use Rattle.nagini_cli.specs.declared.status.TheConstants.{ACCEPTED, NOT_PROVED, REFUSED, LIMIT, USAGE, READ_FAULT}

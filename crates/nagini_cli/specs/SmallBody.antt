@@ -1,5 +1,5 @@
 -- The bounds that keep the numbers of a small function within 128 bits: it has few statements, and each of its numbers is short.
-use Rattle.std.specs.Prelude.{◌≡◌, ◌⊎◌, ◌≤◌, ◌*◌, ◌^◌, ℕ, List, length, slice_get, All, ⊤, IfSome, ℤ, pos, neg_ℤ, ◌≤ℤ◌}
+use Rattle.std.specs.Prelude.{◌≤◌, ◌*◌, ◌^◌, ℕ, List, length, slice_get, All, ⊤, IfSome, ℤ, pos, neg_ℤ, ◌≤ℤ◌}
 use Rattle.py_syntax.specs.declared.Expr.{Expr, out-Expr}
 use Rattle.py_syntax.specs.declared.ExprForm.{ExprForm, ExprForm-F, out-ExprForm}
 use Rattle.py_syntax.specs.declared.Instance.{Instance}

@@ -3,12 +3,10 @@ ghost use Rattle.std.specs.Prelude.{◌≡◌, ◌≢◌, ◌≤◌, ℕ, List, 
 ghost use Rattle.io_edge.specs.Outside.{held_at, Rose};
 ghost use Rattle.py_base.specs.declared.Place.{Place};
 ghost use Rattle.py_syntax.specs.declared.Module.{Module};
-ghost use Rattle.py_front.specs.SmallText.{Spells};
 ghost use Rattle.nagini_cli.specs.SmallBody.{IsSmallModule};
 ghost use Rattle.nagini_cli.specs.SmallRun as small_run;
 ghost use Rattle.nagini_cli.specs.Answers.{IsAnswer, IsVerdict, ChecksFile, report_text};
 ghost use Rattle.nagini_cli.specs.Replies.{Says, text_of};
-ghost use Rattle.nagini_cli.specs.Statuses.{IsQuiet};
 ghost use Rattle.nagini_cli.specs.Texts as texts;
 
 use crate::reply::Reply;
@@ -28,12 +26,21 @@ pub const FILE_LIMIT: usize = 1_048_576;
 
 /// Reads the file, and answers to its bytes.
 pub fn check<F: Files>(alloc: Global, name: &str, files: &mut F) -> Result<Reply, OutOfMemory>
-    ensures whole { IfOk result (λ r. ChecksFile (F.held files.old) name.now r.status (text_of r)) }
-    ensures told { IfOk result (λ r. r.status ≢ READ_FAULT → IfSome (F.held files.old) (λ all. (bytes : List ℕ) → held_at all name.now ≡ Some bytes → IsAnswer bytes r.status (text_of r))) }
-    ensures read_fault { IfOk result (λ r. r.status ≡ READ_FAULT → Rose (F.faults files.old) (F.faults files.new) × (F.failed files.new ≡ Some name.now) × (text_of r ≡ texts.read_fault_line name.now)) }
-    ensures no_read_fault { IfOk result (λ r. r.status ≢ READ_FAULT → (F.faults files.new ≡ F.faults files.old) × (F.failed files.new ≡ F.failed files.old)) }
-    ensures not_held { IfOk result (λ r. IfSome (F.held files.old) (λ all. held_at all name.now ≡ None → r.status ≡ READ_FAULT)) }
-    ensures no_late_read { F.faults files.old ≡ 0 → F.late files.old ≡ false → F.late files.new ≡ false }
+    ensures whole { IfOk result (λ r.
+        ChecksFile (F.held files.old) name.now r.status (text_of r)) }
+    ensures told { IfOk result (λ r. r.status ≢ READ_FAULT →
+        IfSome (F.held files.old) (λ all. (bytes : List ℕ) →
+        held_at all name.now ≡ Some bytes → IsAnswer bytes r.status (text_of r))) }
+    ensures read_fault { IfOk result (λ r. r.status ≡ READ_FAULT →
+        Rose (F.faults files.old) (F.faults files.new)
+        × (F.failed files.new ≡ Some name.now)
+        × (text_of r ≡ texts.read_fault_line name.now)) }
+    ensures no_read_fault { IfOk result (λ r. r.status ≢ READ_FAULT →
+        (F.faults files.new ≡ F.faults files.old) × (F.failed files.new ≡ F.failed files.old)) }
+    ensures not_held { IfOk result (λ r.
+        IfSome (F.held files.old) (λ all. held_at all name.now ≡ None → r.status ≡ READ_FAULT)) }
+    ensures no_late_read { F.faults files.old ≡ 0 → F.late files.old ≡ false →
+        F.late files.new ≡ false }
     ensures held { F.held files.new ≡ F.held files.old }
 {
     match files.read(alloc, name, FILE_LIMIT) {
@@ -78,7 +85,8 @@ fn refuse(alloc: Global, name: &str, place: Place) -> Result<Reply, OutOfMemory>
 // What is said of a small module.
 fn verdict(alloc: Global, small_module: &Module) -> Result<Reply, OutOfMemory>
     requires { IsSmallModule small_module.now }
-    ensures { IfOk result (λ r. IsVerdict (small_run.first_false small_module.now) r.status (text_of r)) }
+    ensures { IfOk result (λ r.
+        IsVerdict (small_run.first_false small_module.now) r.status (text_of r)) }
 {
     match first_false(alloc, small_module)? {
         None => Ok(Reply::one(alloc, ACCEPTED, accepted_line(alloc, 1)?)?),

@@ -54,47 +54,62 @@ pub fn nagini<F: Files, O: Sink>(alloc: Global, words: &[String], files: &mut F,
     ensures no_failed_name { IsAnswered result → F.failed files.new ≡ F.failed files.old }
     ensures not_held { (file : List ℕ) (held : Held) →
         command_of (map string_bytes words.now) ≡ Some (Check file) →
-        F.held files.old ≡ Some held → held_at held file ≡ None → IsQuiet result → result ≡ READ_FAULT }
+        F.held files.old ≡ Some held → held_at held file ≡ None →
+        IsQuiet result → result ≡ READ_FAULT }
 
     // Else the answer is the one that there is to the bytes of the file, where these are told.
-    ensures told { (bytes : List ℕ) → AsksFor (map string_bytes words.now) (F.held files.old) bytes →
+    ensures told { (bytes : List ℕ) →
+        AsksFor (map string_bytes words.now) (F.held files.old) bytes →
         IsAnswered result → (text : List ℕ)
         × IsAnswer bytes result text
         × Appends (O.written out.old) (O.written out.new) text }
 
     // What each status says of the bytes, and when it comes.
-    ensures limit { (bytes : List ℕ) → AsksFor (map string_bytes words.now) (F.held files.old) bytes →
+    ensures limit { (bytes : List ℕ) →
+        AsksFor (map string_bytes words.now) (F.held files.old) bytes →
         IsAnswered result → (result ≡ LIMIT) ↔ (FILE_LIMIT < length bytes) }
-    ensures refused { (bytes : List ℕ) → AsksFor (map string_bytes words.now) (F.held files.old) bytes →
+    ensures refused { (bytes : List ℕ) →
+        AsksFor (map string_bytes words.now) (F.held files.old) bytes →
         result ≡ REFUSED → AreSkipped (lines_of bytes) ⊎ ((i : ℕ) × StopsAt bytes i) }
-    ensures no_main { (bytes : List ℕ) → AsksFor (map string_bytes words.now) (F.held files.old) bytes →
+    ensures no_main { (bytes : List ℕ) →
+        AsksFor (map string_bytes words.now) (F.held files.old) bytes →
         IsAnswered result → length bytes ≤ FILE_LIMIT → AreSkipped (lines_of bytes) →
         (result ≡ REFUSED)
-        × Appends (O.written out.old) (O.written out.new) (texts.refusal_line (codes "NoMain") (end_of bytes)) }
+        × Appends (O.written out.old) (O.written out.new)
+        (texts.refusal_line (codes "NoMain") (end_of bytes)) }
     ensures not_built { (bytes : List ℕ) (i : ℕ) →
         AsksFor (map string_bytes words.now) (F.held files.old) bytes →
         IsAnswered result → length bytes ≤ FILE_LIMIT → StopsAt bytes i →
         (result ≡ REFUSED)
-        × Appends (O.written out.old) (O.written out.new) (texts.refusal_line (codes "NotBuilt") (line_start (1 + i))) }
-    ensures accepted { (bytes : List ℕ) → AsksFor (map string_bytes words.now) (F.held files.old) bytes →
+        × Appends (O.written out.old) (O.written out.new)
+        (texts.refusal_line (codes "NotBuilt") (line_start (1 + i))) }
+    ensures accepted { (bytes : List ℕ) →
+        AsksFor (map string_bytes words.now) (F.held files.old) bytes →
         result ≡ ACCEPTED → (m : Module) × Spells bytes m × (first_false m ≡ None) }
     ensures accepts { (bytes : List ℕ) (m : Module) →
         AsksFor (map string_bytes words.now) (F.held files.old) bytes →
         IsAnswered result → length bytes ≤ FILE_LIMIT → Spells bytes m → first_false m ≡ None →
-        (result ≡ ACCEPTED) × Appends (O.written out.old) (O.written out.new) (texts.accepted_line 1) }
-    ensures not_proved { (bytes : List ℕ) → AsksFor (map string_bytes words.now) (F.held files.old) bytes →
-        result ≡ NOT_PROVED → (m : Module) × (place : Place) × Spells bytes m × (first_false m ≡ Some place)
+        (result ≡ ACCEPTED)
+        × Appends (O.written out.old) (O.written out.new) (texts.accepted_line 1) }
+    ensures not_proved { (bytes : List ℕ) →
+        AsksFor (map string_bytes words.now) (F.held files.old) bytes →
+        result ≡ NOT_PROVED → (m : Module) × (place : Place)
+        × Spells bytes m × (first_false m ≡ Some place)
         × Appends (O.written out.old) (O.written out.new) (report_text place) }
     ensures reports { (bytes : List ℕ) (m : Module) (place : Place) →
         AsksFor (map string_bytes words.now) (F.held files.old) bytes →
-        IsAnswered result → length bytes ≤ FILE_LIMIT → Spells bytes m → first_false m ≡ Some place →
-        (result ≡ NOT_PROVED) × Appends (O.written out.old) (O.written out.new) (report_text place) }
+        IsAnswered result → length bytes ≤ FILE_LIMIT →
+        Spells bytes m → first_false m ≡ Some place →
+        (result ≡ NOT_PROVED)
+        × Appends (O.written out.old) (O.written out.new) (report_text place) }
 
     // A write that fails is the last one, and gives its own status.
     ensures write_fault { result ≡ WRITE_FAULT → Rose (O.faults out.old) (O.faults out.new) }
     ensures no_write_fault { result ≢ WRITE_FAULT → O.faults out.new ≡ O.faults out.old }
-    ensures no_late_read { F.faults files.old ≡ 0 → F.late files.old ≡ false → F.late files.new ≡ false }
-    ensures no_late_write { O.faults out.old ≡ 0 → O.late out.old ≡ false → O.late out.new ≡ false }
+    ensures no_late_read { F.faults files.old ≡ 0 → F.late files.old ≡ false →
+        F.late files.new ≡ false }
+    ensures no_late_write { O.faults out.old ≡ 0 → O.late out.old ≡ false →
+        O.late out.new ≡ false }
     ensures held { F.held files.new ≡ F.held files.old }
 {
     match checked_file(words) {

@@ -48,12 +48,15 @@ impl Reply {
 /// Writes a reply, and answers its status. A write that fails is the last one.
 pub fn finish<O: Sink>(reply: Result<Reply, OutOfMemory>, out: &mut O) -> u8
     requires { IfOk reply (λ r. IsQuiet r.status) }
-    ensures whole { IsQuiet result → IsOkAnd reply (λ r. (result ≡ r.status) × Appends (O.written out.old) (O.written out.new) (text_of r)) }
-    ensures part { IsCutShort result → IfOk reply (λ r. AppendsPart (O.written out.old) (O.written out.new) (text_of r)) }
+    ensures whole { IsQuiet result → IsOkAnd reply (λ r.
+        (result ≡ r.status) × Appends (O.written out.old) (O.written out.new) (text_of r)) }
+    ensures part { IsCutShort result → IfOk reply (λ r.
+        AppendsPart (O.written out.old) (O.written out.new) (text_of r)) }
     ensures nothing { IsErr reply → O.written out.new ≡ O.written out.old }
     ensures write_fault { result ≡ WRITE_FAULT → Rose (O.faults out.old) (O.faults out.new) }
     ensures no_write_fault { result ≢ WRITE_FAULT → O.faults out.new ≡ O.faults out.old }
-    ensures no_late_write { O.faults out.old ≡ 0 → O.late out.old ≡ false → O.late out.new ≡ false }
+    ensures no_late_write { O.faults out.old ≡ 0 → O.late out.old ≡ false →
+        O.late out.new ≡ false }
 {
     let Ok(reply) = reply else {
         return NO_MEMORY;
@@ -67,11 +70,16 @@ pub fn finish<O: Sink>(reply: Result<Reply, OutOfMemory>, out: &mut O) -> u8
 
 // Writes the lines, each by one write, until one fails.
 fn write_lines<O: Sink>(lines: &[String], out: &mut O) -> Result<(), SinkAnswer>
-    ensures whole { OnOk result (Appends (O.written out.old) (O.written out.new) (flat_map string_bytes lines.now)) }
-    ensures part { OnErr result (AppendsPart (O.written out.old) (O.written out.new) (flat_map string_bytes lines.now)) }
-    ensures counted { IsErrOf result SinkAnswer.Failed → Rose (O.faults out.old) (O.faults out.new) }
-    ensures not_counted { ¬ IsErrOf result SinkAnswer.Failed → O.faults out.new ≡ O.faults out.old }
-    ensures late { O.faults out.old ≡ 0 → O.late out.old ≡ false → O.late out.new ≡ false }
+    ensures whole { OnOk result
+        (Appends (O.written out.old) (O.written out.new) (flat_map string_bytes lines.now)) }
+    ensures part { OnErr result
+        (AppendsPart (O.written out.old) (O.written out.new) (flat_map string_bytes lines.now)) }
+    ensures counted { IsErrOf result SinkAnswer.Failed →
+        Rose (O.faults out.old) (O.faults out.new) }
+    ensures not_counted { ¬ IsErrOf result SinkAnswer.Failed →
+        O.faults out.new ≡ O.faults out.old }
+    ensures late { O.faults out.old ≡ 0 → O.late out.old ≡ false →
+        O.late out.new ≡ false }
 {
     for line in lines {
         if let Err(answer) = out.write(line.as_bytes()) {

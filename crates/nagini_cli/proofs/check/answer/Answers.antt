@@ -1,10 +1,9 @@
-use Rattle.std.proofs.Common.{◌≡◌, ℕ, ◌+◌, Ok, Err, Result, subst, ◌∙◌, ap, arith}
+use Rattle.std.proofs.Common.{Ok, Err, subst, ap}
 use Rattle.std.proofs.lemmas.Result.{IfOk-weaker}
 use Rattle.std.specs.Prelude.{codes}
 use Rattle.py_base.specs.declared.Place.{Place}
 use Rattle.py_front.specs.declared.FrontFault.{FrontFault}
 use Rattle.py_front.specs.declared.FrontFault.TheVariants.{NotBuilt}
-use Rattle.py_front.specs.SmallText.{line_start}
 use Rattle.nagini_cli.specs.Answers.{IsAnswer, IsVerdict}
 use Rattle.nagini_cli.specs.Replies.{Says, text_of}
 use Rattle.nagini_cli.specs.SmallRun.{first_false}

@@ -1,4 +1,4 @@
-use Rattle.std.proofs.Common.{◌≡◌, ◌++◌, sym, subst, List, ℕ, Option, drop, take, ◌+◌, flat_map, string_bytes, arith}
+use Rattle.std.proofs.Common.{sym, subst, List, ℕ, Option, drop, take, ◌+◌, flat_map, string_bytes, arith}
 use Rattle.io_edge.specs.Outside.{AppendsPart}
 use Rattle.nagini_cli.proofs.Written.{AppendsPart-append, flat_map-at}
 use Rattle.nagini_cli.proofs.reply.write_lines.Goals as goal

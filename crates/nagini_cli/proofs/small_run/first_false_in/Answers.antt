@@ -1,9 +1,8 @@
-use Rattle.std.proofs.Common.{◌≡◌, ◌≤◌, ◌+◌, ◌<◌, ◌∙◌, sym, ap, ℕ, List, ◌∷◌, ℤ, Bool, true, false, cond, Option, Some, length, get_or, drop, subst, arith, rules}
+use Rattle.std.proofs.Common.{◌≡◌, ◌+◌, ◌<◌, ◌∙◌, sym, ap, ℕ, List, ◌∷◌, ℤ, Bool, false, cond, Some, length, get_or, drop, arith, rules}
 use Rattle.std.proofs.lemmas.List.{at_drop_more}
-use Rattle.std.proofs.lemmas.List.Elements.{All-get_or}
 use Rattle.py_syntax.specs.declared.Stmt.{Stmt, out-Stmt}
 use Rattle.nagini_cli.specs.SmallRun.{is_false, after, first_false_in}
-use Rattle.nagini_cli.specs.SmallBody.{IsSmallStmt, AreWithin, reach}
+use Rattle.nagini_cli.specs.SmallBody.{IsSmallStmt}
 use Rattle.nagini_cli.proofs.Reach.{reach-last, reach-after}
 use Rattle.nagini_cli.proofs.small_run.first_false_in.Goals as goal
 
