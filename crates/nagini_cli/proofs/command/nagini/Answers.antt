@@ -1,0 +1,38 @@
+use Rattle.std.proofs.Common.{sym, refl, arith}
+use Rattle.std.proofs.lemmas.Result.{IfOk-weaker}
+use Rattle.nagini_cli.specs.Answers.{no_main, not_built, accepted, not_proved}
+use Rattle.nagini_cli.proofs.Replied.{whole_of, part_of, usage_part_of, read_fault_of, row_of}
+use Rattle.nagini_cli.proofs.command.nagini.Goals as goal
+
+pub returns-in-Some-clause-whole : goal.returns-in-Some-clause-whole
+returns-in-Some-clause-whole g c = λ quiet.
+    whole_of c.check.result _ _ c.in-Some.file.now _ _ _ (sym c.in-Some.ensures) c.check.ensures.whole (c.finish.ensures.whole quiet)
+
+pub returns-in-Some-clause-part : goal.returns-in-Some-clause-part
+returns-in-Some-clause-part g c = λ cut.
+    part_of _ c.check.result _ _ c.in-Some.file.now _ _ (sym c.in-Some.ensures) c.check.ensures.whole (IfOk-weaker c.check.result _ _ (λ r promised is. (promised is).0) c.check.ensures.read_fault) (c.finish.ensures.part cut) c.finish.ensures.nothing
+
+pub returns-in-Some-clause-read_fault : goal.returns-in-Some-clause-read_fault
+returns-in-Some-clause-read_fault g c = λ is.
+    let fault = read_fault_of _ _ c.check.result c.in-Some.file.now c.finish.result _ _ c.check.ensures.read_fault (c.finish.ensures.whole (λ e. omega (arith, is, e), λ e. omega (arith, is, e))) is in
+    (c.in-Some.file.now, sym c.in-Some.ensures, fault.0, fault.1, fault.2)
+
+pub returns-in-Some-clause-no_main : goal.returns-in-Some-clause-no_main
+returns-in-Some-clause-no_main g c = λ bytes asks is_answered within skipped.
+    row_of c.check.result _ _ c.in-Some.file.now _ _ _ (sym c.in-Some.ensures) c.check.ensures.told c.finish.ensures.whole bytes _ _ asks is_answered (no_main within skipped refl refl)
+
+pub returns-in-Some-clause-not_built : goal.returns-in-Some-clause-not_built
+returns-in-Some-clause-not_built g c = λ bytes i asks is_answered within stops.
+    row_of c.check.result _ _ c.in-Some.file.now _ _ _ (sym c.in-Some.ensures) c.check.ensures.told c.finish.ensures.whole bytes _ _ asks is_answered (not_built within i stops refl refl)
+
+pub returns-in-Some-clause-accepts : goal.returns-in-Some-clause-accepts
+returns-in-Some-clause-accepts g c = λ bytes m asks is_answered within spelled none.
+    row_of c.check.result _ _ c.in-Some.file.now _ _ _ (sym c.in-Some.ensures) c.check.ensures.told c.finish.ensures.whole bytes _ _ asks is_answered (accepted within m spelled none refl refl)
+
+pub returns-in-Some-clause-reports : goal.returns-in-Some-clause-reports
+returns-in-Some-clause-reports g c = λ bytes m place asks is_answered within spelled some.
+    row_of c.check.result _ _ c.in-Some.file.now _ _ _ (sym c.in-Some.ensures) c.check.ensures.told c.finish.ensures.whole bytes _ _ asks is_answered (not_proved within m place spelled some refl refl)
+
+pub returns-in-None-clause-part : goal.returns-in-None-clause-part
+returns-in-None-clause-part g c = λ cut.
+    usage_part_of _ c.usage.result _ _ _ _ (sym c.in-None.ensures) c.usage.ensures (c.finish-in-None.ensures.part cut) c.finish-in-None.ensures.nothing

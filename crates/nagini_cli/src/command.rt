@@ -1,0 +1,156 @@
+// The top call: words to a command, and what it answers.
+ghost use Rattle.std.specs.Prelude.{◌≡◌, ◌≢◌, ◌≤◌, ◌<◌, ◌+◌, ◌⊎◌, ◌↔◌, ℕ, List, false, map, length, string_bytes, codes, IfOk, Some, None, option_copied};
+ghost use Rattle.std.specs.Option.{option_map};
+ghost use Rattle.std.specs.Io.KnownBytes.{Appends};
+ghost use Rattle.io_edge.specs.Outside.{Held, held_at, Rose, AppendsPart};
+ghost use Rattle.py_base.specs.declared.Place.{Place};
+ghost use Rattle.py_syntax.specs.declared.Module.{Module};
+ghost use Rattle.py_front.specs.TextLines.{lines_of, AreSkipped};
+ghost use Rattle.py_front.specs.SmallText.{Spells, StopsAt, line_start, end_of};
+ghost use Rattle.nagini_cli.specs.Answers.{Allowed, AsksFor, IsAnswer, report_text};
+ghost use Rattle.nagini_cli.specs.Commands as commands;
+ghost use Rattle.nagini_cli.specs.Commands.{Check, command_of};
+ghost use Rattle.nagini_cli.specs.Replies.{Says};
+ghost use Rattle.nagini_cli.specs.SmallRun.{first_false};
+ghost use Rattle.nagini_cli.specs.Statuses.{IsAnswered, IsCutShort, IsQuiet};
+ghost use Rattle.nagini_cli.specs.Texts as texts;
+
+use crate::check::{FILE_LIMIT, check};
+use crate::reply::{Reply, finish};
+use crate::status::{ACCEPTED, LIMIT, NOT_PROVED, READ_FAULT, REFUSED, USAGE, WRITE_FAULT};
+use crate::texts::usage_line;
+use io_edge::{Files, Sink};
+use py_base::OutOfMemory;
+use std::alloc::Global;
+
+/// Does what the words ask for, and answers the status. Each line of output is one write. Want of
+/// memory may come in place of any answer.
+pub fn nagini<F: Files, O: Sink>(alloc: Global, words: &[String], files: &mut F, out: &mut O) -> u8
+    // What is answered is allowed for the words and the files that are held. Where memory is missing
+    // or a write fails, nothing is written or a front of such a text, and the text of a read fault
+    // only where a read failed.
+    ensures whole { IsQuiet result → (text : List ℕ)
+        × Allowed (map string_bytes words.now) (F.held files.old) result text
+        × Appends (O.written out.old) (O.written out.new) text }
+    ensures part { IsCutShort result → (O.written out.new ≡ O.written out.old)
+        ⊎ ((status : ℕ) × (text : List ℕ)
+        × Allowed (map string_bytes words.now) (F.held files.old) status text
+        × AppendsPart (O.written out.old) (O.written out.new) text
+        × (status ≡ READ_FAULT → Rose (F.faults files.old) (F.faults files.new))) }
+
+    // Words that are no command, and no others, are answered by the usage line.
+    ensures usage { result ≡ USAGE → command_of (map string_bytes words.now) ≡ None }
+    ensures no_command { command_of (map string_bytes words.now) ≡ None → IsQuiet result →
+        (result ≡ USAGE) × Appends (O.written out.old) (O.written out.new) texts.usage_line }
+    ensures unread { command_of (map string_bytes words.now) ≡ None → files.new ≡ files.old }
+
+    // A read fault is told where the read of the command's file failed, and only there.
+    ensures read_fault { result ≡ READ_FAULT → (file : List ℕ)
+        × (command_of (map string_bytes words.now) ≡ Some (Check file))
+        × Rose (F.faults files.old) (F.faults files.new)
+        × (F.failed files.new ≡ Some file)
+        × Appends (O.written out.old) (O.written out.new) (texts.read_fault_line file) }
+    ensures no_read_fault { IsAnswered result → F.faults files.new ≡ F.faults files.old }
+    ensures no_failed_name { IsAnswered result → F.failed files.new ≡ F.failed files.old }
+    ensures not_held { (file : List ℕ) (held : Held) →
+        command_of (map string_bytes words.now) ≡ Some (Check file) →
+        F.held files.old ≡ Some held → held_at held file ≡ None →
+        IsQuiet result → result ≡ READ_FAULT }
+
+    // Else the answer is the one that there is to the bytes of the file, where these are told.
+    ensures told { (bytes : List ℕ) →
+        AsksFor (map string_bytes words.now) (F.held files.old) bytes →
+        IsAnswered result → (text : List ℕ)
+        × IsAnswer bytes result text
+        × Appends (O.written out.old) (O.written out.new) text }
+
+    // What each status says of the bytes, and when it comes.
+    ensures limit { (bytes : List ℕ) →
+        AsksFor (map string_bytes words.now) (F.held files.old) bytes →
+        IsAnswered result → (result ≡ LIMIT) ↔ (FILE_LIMIT < length bytes) }
+    ensures refused { (bytes : List ℕ) →
+        AsksFor (map string_bytes words.now) (F.held files.old) bytes →
+        result ≡ REFUSED → AreSkipped (lines_of bytes) ⊎ ((i : ℕ) × StopsAt bytes i) }
+    ensures no_main { (bytes : List ℕ) →
+        AsksFor (map string_bytes words.now) (F.held files.old) bytes →
+        IsAnswered result → length bytes ≤ FILE_LIMIT → AreSkipped (lines_of bytes) →
+        (result ≡ REFUSED)
+        × Appends (O.written out.old) (O.written out.new)
+        (texts.refusal_line (codes "NoMain") (end_of bytes)) }
+    ensures not_built { (bytes : List ℕ) (i : ℕ) →
+        AsksFor (map string_bytes words.now) (F.held files.old) bytes →
+        IsAnswered result → length bytes ≤ FILE_LIMIT → StopsAt bytes i →
+        (result ≡ REFUSED)
+        × Appends (O.written out.old) (O.written out.new)
+        (texts.refusal_line (codes "NotBuilt") (line_start (1 + i))) }
+    ensures accepted { (bytes : List ℕ) →
+        AsksFor (map string_bytes words.now) (F.held files.old) bytes →
+        result ≡ ACCEPTED → (m : Module) × Spells bytes m × (first_false m ≡ None) }
+    ensures accepts { (bytes : List ℕ) (m : Module) →
+        AsksFor (map string_bytes words.now) (F.held files.old) bytes →
+        IsAnswered result → length bytes ≤ FILE_LIMIT → Spells bytes m → first_false m ≡ None →
+        (result ≡ ACCEPTED)
+        × Appends (O.written out.old) (O.written out.new) (texts.accepted_line 1) }
+    ensures not_proved { (bytes : List ℕ) →
+        AsksFor (map string_bytes words.now) (F.held files.old) bytes →
+        result ≡ NOT_PROVED → (m : Module) × (place : Place)
+        × Spells bytes m × (first_false m ≡ Some place)
+        × Appends (O.written out.old) (O.written out.new) (report_text place) }
+    ensures reports { (bytes : List ℕ) (m : Module) (place : Place) →
+        AsksFor (map string_bytes words.now) (F.held files.old) bytes →
+        IsAnswered result → length bytes ≤ FILE_LIMIT →
+        Spells bytes m → first_false m ≡ Some place →
+        (result ≡ NOT_PROVED)
+        × Appends (O.written out.old) (O.written out.new) (report_text place) }
+
+    // A write that fails is the last one, and gives its own status.
+    ensures write_fault { result ≡ WRITE_FAULT → Rose (O.faults out.old) (O.faults out.new) }
+    ensures no_write_fault { result ≢ WRITE_FAULT → O.faults out.new ≡ O.faults out.old }
+    ensures no_late_read { F.faults files.old ≡ 0 → F.late files.old ≡ false →
+        F.late files.new ≡ false }
+    ensures no_late_write { O.faults out.old ≡ 0 → O.late out.old ≡ false →
+        O.late out.new ≡ false }
+    ensures held { F.held files.new ≡ F.held files.old }
+{
+    match checked_file(words) {
+        Some(file) => finish(check(alloc, file, files), out),
+        None => finish(usage(alloc), out),
+    }
+}
+
+// The file of the command `check FILE`.
+fn checked_file(words: &[String]) -> Option<&str>
+    ensures { option_map Check (option_copied result) ≡ command_of (map string_bytes words.now) }
+{
+    match words {
+        [word, file] if is_check(word, file) => Some(file),
+        _ => None,
+    }
+}
+
+// Whether the words are `check FILE`.
+fn is_check(word: &str, file: &str) -> bool
+    ensures { result ≡ commands.is_check word.now file.now }
+{
+    if word == "check" {
+        is_file(file.as_bytes())
+    } else {
+        false
+    }
+}
+
+// Whether a word may name a file.
+fn is_file(word: &[u8]) -> bool
+    ensures { result ≡ commands.is_file word.now }
+{
+    match word {
+        [] => false,
+        [first, ..] => *first != b'-',
+    }
+}
+
+fn usage(alloc: Global) -> Result<Reply, OutOfMemory>
+    ensures { IfOk result (λ r. Says r USAGE texts.usage_line) }
+{
+    Ok(Reply::one(alloc, USAGE, usage_line(alloc)?)?)
+}

@@ -1,0 +1,13 @@
+//! The commands of the program, over files and an output that are handed in.
+#![tactic(auto)]
+
+mod check;
+mod command;
+mod laws;
+mod reply;
+mod small_run;
+mod status;
+mod texts;
+
+pub use command::nagini;
+pub use laws::a_file_has_one_answer;

@@ -1,0 +1,57 @@
+// The lines that the program writes.
+ghost use Rattle.std.specs.Prelude.{◌≡◌, IfOk, string_bytes};
+ghost use Rattle.nagini_cli.specs.Texts as texts;
+
+use py_base::{Kind, Place};
+use std::alloc::{AllocError, Global};
+
+pub fn usage_line(alloc: Global) -> Result<String, AllocError>
+    ensures { IfOk result (λ line. string_bytes line ≡ texts.usage_line) }
+{
+    String::from_str(alloc, "usage: nagini check FILE\n")
+}
+
+pub fn limit_line(alloc: Global, name: &str) -> Result<String, AllocError>
+    ensures { IfOk result (λ line. string_bytes line ≡ texts.limit_line name.now) }
+{
+    format!(in alloc; "limit {name}\n")
+}
+
+pub fn read_fault_line(alloc: Global, name: &str) -> Result<String, AllocError>
+    ensures { IfOk result (λ line. string_bytes line ≡ texts.read_fault_line name.now) }
+{
+    format!(in alloc; "read fault {name}\n")
+}
+
+pub fn refusal_line(alloc: Global, name: &str, place: Place) -> Result<String, AllocError>
+    ensures { IfOk result (λ line. string_bytes line ≡ texts.refusal_line name.now place) }
+{
+    let Place { line, col } = place;
+    format!(in alloc; "refused {name} {line}:{col}\n")
+}
+
+pub fn accepted_line(alloc: Global, count: usize) -> Result<String, AllocError>
+    ensures { IfOk result (λ line. string_bytes line ≡ texts.accepted_line count) }
+{
+    format!(in alloc; "accepted {count}\n")
+}
+
+pub fn fault_line(
+    alloc: Global,
+    place: Place,
+    kind: Kind,
+    method: &str,
+) -> Result<String, AllocError>
+    ensures { IfOk result (λ line. string_bytes line ≡ texts.fault_line place kind method.now) }
+{
+    let Place { line, col } = place;
+    let number = kind.number();
+    let name = kind.name();
+    format!(in alloc; "{line}:{col} {number} {name} {method}\n")
+}
+
+pub fn not_proved_line(alloc: Global, count: usize) -> Result<String, AllocError>
+    ensures { IfOk result (λ line. string_bytes line ≡ texts.not_proved_line count) }
+{
+    format!(in alloc; "not proved {count}\n")
+}
