@@ -1,0 +1,26 @@
+// What the tests share: words, files, and modules by their text.
+use io_edge::MemFiles;
+use std::alloc::{AllocError, Global};
+
+/// The smallest module that assigns, asserts and prints.
+pub const SMALLEST: &str =
+    "def main() -> None:\n    x = 3\n    assert x + 2 == 5\n    print(x)\n";
+
+/// The words of a command line, parted by single spaces; no words where the line is empty.
+pub fn words_of(alloc: Global, line: &str) -> Result<Vec<String>, AllocError> {
+    let mut words = Vec::new(alloc);
+    if line.is_empty() {
+        return Ok(words);
+    }
+    for word in line.split(' ') {
+        words.push(String::from_str(alloc, word)?)?;
+    }
+    Ok(words)
+}
+
+/// The file `m.py` with this text, where the reads with these numbers fail.
+pub fn one_file(alloc: Global, text: &[u8], failing: Vec<u64>) -> Result<MemFiles, AllocError> {
+    let mut files = Vec::new(alloc);
+    files.push((String::from_str(alloc, "m.py")?, text.to_vec(alloc)?))?;
+    Ok(MemFiles::new(files, failing))
+}

@@ -1,0 +1,9 @@
+//! The worked examples as tests of the top call, over files and sinks in memory.
+#![tactic(auto)]
+
+#[cfg(test)]
+mod answers;
+#[cfg(test)]
+mod fixtures;
+#[cfg(test)]
+mod outside;
