@@ -1,5 +1,5 @@
 // Tables whose rows have keys that differ.
-ghost use Rattle.std.specs.Prelude.{◌≡◌, ◌↔◌, ◌<◌, List, filter, find, count_by, nat_lt, IsNone, IfSome, option_copied};
+ghost use Rattle.std.specs.Prelude.{◌≡◌, ◌↔◌, filter, find, count_by, nat_lt, IsNone, IfSome, option_copied};
 ghost use Rattle.std.specs.List.{list_any};
 ghost use Rattle.std.specs.Option.{option_to_list};
 ghost use Rattle.case_tables.specs.Keys.{has_key, HasKeyTwice, HaveDistinctKeys};

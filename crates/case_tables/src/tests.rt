@@ -14,18 +14,18 @@ fn each_operator_has_a_row(rt: HostRuntime) {
 
 #[test]
 fn marks_write_operators(rt: HostRuntime) {
-    for (number, key) in [
-        (1, 0),
-        (8, 0),
-        (14, 0),
-        (15, 4),
-        (18, 8),
-        (21, 11),
-        (26, 4),
-        (27, 5),
+    for (mark, number, key) in [
+        ("(", 1, 0),
+        ("=", 8, 0),
+        ("/", 14, 0),
+        ("//", 15, 4),
+        ("<=", 18, 8),
+        ("==", 21, 11),
+        ("//=", 26, 4),
+        ("%=", 27, 5),
     ] {
         let found = marks().find(number);
-        assert_eq!(rt; found.map(|row| row.out), Some(key), "{number}");
+        assert_eq!(rt; found.map(|row| row.out), Some(key), "{mark}");
     }
     assert_eq!(rt; marks().find(28), None);
 }
