@@ -37,7 +37,10 @@ fn small_modules_are_accepted_or_reported_at_the_first_false_assert(
             "8:5 5 Assert main\nnot proved 1\n",
         ),
     ] {
-        assert!(rt; gives(rt.alloc(), "check m.py", text.as_bytes(), status, output)?, "{text}");
+        assert!(rt;
+            gives(rt.alloc(), "check m.py", text.as_bytes(), status, output)?,
+            "{text}"
+        );
     }
     Ok(())
 }
@@ -47,13 +50,13 @@ fn other_texts_are_refused_at_their_place(rt: HostRuntime) -> Result<(), Fail> {
     for (text, output) in [
         ("", "refused NoMain 1:1\n"),
         ("# a\n# b\n", "refused NoMain 3:1\n"),
-        (
-            "def main() -> None:\n    x = y\n",
-            "refused NotBuilt 2:1\n",
-        ),
+        ("def main() -> None:\n    x = y\n", "refused NotBuilt 2:1\n"),
         ("def main() -> None:\n", "refused NotBuilt 2:1\n"),
     ] {
-        assert!(rt; gives(rt.alloc(), "check m.py", text.as_bytes(), 2, output)?, "{text}");
+        assert!(rt;
+            gives(rt.alloc(), "check m.py", text.as_bytes(), 2, output)?,
+            "{text}"
+        );
     }
     Ok(())
 }
@@ -93,7 +96,10 @@ fn other_words_are_answered_by_the_usage_line(rt: HostRuntime) -> Result<(), Fai
         "--help",
     ] {
         let usage = "usage: nagini check FILE\n";
-        assert!(rt; gives(rt.alloc(), line, SMALLEST.as_bytes(), 64, usage)?, "{line}");
+        assert!(rt;
+            gives(rt.alloc(), line, SMALLEST.as_bytes(), 64, usage)?,
+            "{line}"
+        );
     }
     Ok(())
 }

@@ -3,8 +3,7 @@ use io_edge::MemFiles;
 use std::alloc::{AllocError, Global};
 
 /// The smallest module that assigns, asserts and prints.
-pub const SMALLEST: &str =
-    "def main() -> None:\n    x = 3\n    assert x + 2 == 5\n    print(x)\n";
+pub const SMALLEST: &str = "def main() -> None:\n    x = 3\n    assert x + 2 == 5\n    print(x)\n";
 
 /// The words of a command line, parted by single spaces; no words where the line is empty.
 pub fn words_of(alloc: Global, line: &str) -> Result<Vec<String>, AllocError> {
