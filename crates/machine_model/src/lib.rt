@@ -1,6 +1,7 @@
 //! The states of a run of a module: a heap and threads, and what a step shows of itself.
 #![tactic(auto)]
 
+mod control;
 mod event;
 mod fields;
 mod halt;
@@ -8,6 +9,7 @@ mod moved;
 mod stack;
 mod state;
 
+pub use control::push_expr;
 pub use event::{Event, EventForm, Trace};
 pub use fields::Fields;
 pub use halt::Halt;

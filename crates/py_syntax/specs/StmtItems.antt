@@ -10,12 +10,7 @@ use Rattle.py_syntax.specs.declared.module.Method.{Method}
 use Rattle.py_syntax.specs.declared.item.Way.TheVariants as way
 use Rattle.py_syntax.specs.declared.item.Item.{Item}
 use Rattle.py_syntax.specs.declared.item.Item.TheVariants as item
-use Rattle.py_syntax.specs.ExprItems.{Before, expr_items}
-
--- expressions one after another
-abbrev pub exprs_items : {V : Type 0} → List Expr → Before V
-exprs_items [] rest = rest
-exprs_items (e ∷ es) rest = expr_items e (exprs_items es rest)
+use Rattle.py_syntax.specs.ExprItems.{Before, in_turn, expr_items}
 
 -- the arguments of `print` that are no literals
 abbrev pub printed_items : {V : Type 0} → List PrintArg → Before V
@@ -48,7 +43,7 @@ stmt_form_items (StmtForm-F.Try body handlers other last) p rest = item.Try body
 stmt_form_items (StmtForm-F.With e body) p rest = expr_items e (item.With p body ∷ rest)
 stmt_form_items (StmtForm-F.Raise c) p rest = item.Raise p c ∷ rest
 stmt_form_items (StmtForm-F.Return e) p rest = returned_items e rest
-stmt_form_items (StmtForm-F.Super q all) p rest = exprs_items all (item.Super q (length all) ∷ rest)
+stmt_form_items (StmtForm-F.Super q all) p rest = in_turn expr_items all (item.Super q (length all) ∷ rest)
 stmt_form_items (StmtForm-F.Acquire q e) p rest = expr_items e (item.Acquire q ∷ rest)
 stmt_form_items (StmtForm-F.Release q e) p rest = expr_items e (item.Release q ∷ rest)
 stmt_form_items (StmtForm-F.Start q e f) p rest = expr_items e (item.Start q f ∷ rest)
@@ -59,8 +54,7 @@ stmt_items s rest = stmt_form_items (out-StmtForm s.form) s.place rest
 
 -- a block, statement by statement
 abbrev pub block_items : {V : Type 0} → List Stmt → Before V
-block_items [] rest = rest
-block_items (s ∷ ss) rest = stmt_items s (block_items ss rest)
+block_items = in_turn stmt_items
 
 -- a statement of a body that still has to make k fields: an assignment to a field makes it
 abbrev pub making_form : {V : Type 0} → ℕ → StmtForm-F StmtForm Stmt → Stmt → (ℕ → Before V) → Before V
