@@ -1,2 +1,5 @@
 mod Maps
 mod Parts
+mod Eleven
+mod ElevenSteps
+mod ReplacedSteps

@@ -14,3 +14,5 @@ pub mod Steps
 pub mod Stuck
 pub mod Race
 pub mod Safe
+pub mod Smallest
+pub mod Replaced

@@ -5,6 +5,7 @@ mod control;
 mod event;
 mod fields;
 mod halt;
+mod laws;
 mod moved;
 mod stack;
 mod state;
@@ -13,6 +14,9 @@ pub use control::push_expr;
 pub use event::{Event, EventForm, Trace};
 pub use fields::Fields;
 pub use halt::Halt;
+pub use laws::{
+    an_exception_in_finally_replaces_the_pending_one, the_smallest_module_takes_eleven_steps,
+};
 pub use moved::Moved;
 pub use stack::Stack;
 pub use state::{Frame, LockState, Object, State, ThreadState};

@@ -137,7 +137,12 @@ fn push_chain(
         return Ok(());
     };
     let keys = Items::from_slice(alloc, keys)?;
-    push_then(alloc, control, b, Item::Link(*key, copy_exprs(alloc, more)?, keys))?;
+    push_then(
+        alloc,
+        control,
+        b,
+        Item::Link(*key, copy_exprs(alloc, more)?, keys),
+    )?;
     push_expr(alloc, control, a)
 }
 
