@@ -9,7 +9,7 @@ mod moved;
 mod stack;
 mod state;
 
-pub use control::push_expr;
+pub use control::{method_control, push_block, push_expr, push_stmt};
 pub use event::{Event, EventForm, Trace};
 pub use fields::Fields;
 pub use halt::Halt;
