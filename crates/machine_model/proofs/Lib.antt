@@ -1,2 +1,3 @@
+mod Makes
 mod Maps
 mod Parts

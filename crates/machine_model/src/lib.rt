@@ -2,6 +2,7 @@
 #![tactic(auto)]
 
 mod control;
+mod entry;
 mod event;
 mod fields;
 mod halt;
@@ -10,6 +11,7 @@ mod stack;
 mod state;
 
 pub use control::{method_control, push_block, push_expr, push_stmt};
+pub use entry::start;
 pub use event::{Event, EventForm, Trace};
 pub use fields::Fields;
 pub use halt::Halt;
