@@ -1,3 +1,4 @@
+mod Makes
 mod Maps
 mod Parts
 mod Eleven

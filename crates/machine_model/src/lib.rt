@@ -2,6 +2,7 @@
 #![tactic(auto)]
 
 mod control;
+mod entry;
 mod event;
 mod fields;
 mod halt;
@@ -10,7 +11,8 @@ mod moved;
 mod stack;
 mod state;
 
-pub use control::push_expr;
+pub use control::{method_control, push_block, push_expr, push_stmt};
+pub use entry::start;
 pub use event::{Event, EventForm, Trace};
 pub use fields::Fields;
 pub use halt::Halt;

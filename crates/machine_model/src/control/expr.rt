@@ -55,7 +55,7 @@ fn push_form(
         ExprForm::Local(i) => control.push(Item::Load(*i)),
         ExprForm::Get(o, field) => push_then(alloc, control, o.get(), Item::Read(place, *field)),
         ExprForm::Un(key, a) => push_then(alloc, control, a.get(), Item::Un(place, *key)),
-        ExprForm::Bin(key, a, b) => push_both(alloc, control, a, b, Item::Bin(place, *key)),
+        ExprForm::Bin(key, a, b) => push_both(alloc, control, a.get(), b.get(), Item::Bin(place, *key)),
         ExprForm::Chain(all, keys) => push_chain(alloc, control, all, keys),
         ExprForm::And(a, b) => push_and(alloc, control, a, b),
         ExprForm::Or(a, b) => push_or(alloc, control, a, b),
@@ -63,18 +63,15 @@ fn push_form(
         ExprForm::Send(o, name, args) => push_send(alloc, control, o, args, place, *name),
         ExprForm::New(class, args) => push_new(alloc, control, args, place, *class),
         ExprForm::NewLock(class, o, level) => {
-            push_both(alloc, control, o, level, Item::NewLock(place, *class))
+            push_both(alloc, control, o.get(), level.get(), Item::NewLock(place, *class))
         }
         ExprForm::NewThread(function, args, level) => {
             push_new_thread(alloc, control, args, level, place, *function)
         }
         ExprForm::Locked(lock) => push_then(alloc, control, lock.get(), Item::Locked(place)),
         ExprForm::NotNil(e) => push_then(alloc, control, e.get(), Item::NotNil(place)),
-        ExprForm::Old(_) => Ok(()),
-        ExprForm::Answer => Ok(()),
-        ExprForm::LevelOf(_) => Ok(()),
-        ExprForm::Opened(_, _) => Ok(()),
-        ExprForm::Gives(_, _) => Ok(()),
+        ExprForm::Old(_) | ExprForm::Answer | ExprForm::LevelOf(_) => Ok(()),
+        ExprForm::Opened(_, _) | ExprForm::Gives(_, _) => Ok(()),
     }
 }
 
@@ -106,18 +103,19 @@ pub fn push_all_then(
     push_exprs(alloc, control, all.as_slice())
 }
 
+/// Puts the items of two expressions on top, those of the first on top, and this item behind them.
 #[cycle(push_expr)]
-fn push_both(
+pub fn push_both(
     alloc: Global,
     control: &mut Stack<Item<Value>>,
-    a: &Boxed<Expr>,
-    b: &Boxed<Expr>,
+    a: &Expr,
+    b: &Expr,
     item: Item<Value>,
 ) -> Result<(), OutOfMemory>
     ensures { OnOk result (control.new ≡ expr_items a.now (expr_items b.now (item ∷ control.old))) }
 {
-    push_then(alloc, control, b.get(), item)?;
-    push_expr(alloc, control, a.get())
+    push_then(alloc, control, b, item)?;
+    push_expr(alloc, control, a)
 }
 
 #[cycle(push_expr)]
@@ -137,13 +135,8 @@ fn push_chain(
         return Ok(());
     };
     let keys = Items::from_slice(alloc, keys)?;
-    push_then(
-        alloc,
-        control,
-        b,
-        Item::Link(*key, copy_exprs(alloc, more)?, keys),
-    )?;
-    push_expr(alloc, control, a)
+    let link = Item::Link(*key, copy_exprs(alloc, more)?, keys);
+    push_both(alloc, control, a, b, link)
 }
 
 #[cycle(push_expr)]

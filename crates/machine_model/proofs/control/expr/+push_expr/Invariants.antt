@@ -25,7 +25,7 @@ abbrev pub decreases-push_both : goal.decreases-push_both
 decreases-push_both l = 4 * max (size-Expr l.a.now) (size-Expr l.b.now) + 2
 
 abbrev pub decreases-push_chain : goal.decreases-push_chain
-decreases-push_chain l = 4 * most size-Expr l.all.now + 2
+decreases-push_chain l = 4 * most size-Expr l.all.now + 3
 
 abbrev pub decreases-push_and : goal.decreases-push_and
 decreases-push_and l = 4 * size-Expr l.a.now + 2
