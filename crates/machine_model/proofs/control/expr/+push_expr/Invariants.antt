@@ -1,6 +1,6 @@
-use Rattle.std.proofs.Common.{◌≡◌, ℕ, ◌+◌, ◌*◌, ◌≤◌, length, max, drop}
+use Rattle.std.proofs.Common.{◌≡◌, ◌+◌, ◌*◌, ◌≤◌, length, max, drop}
 use denote.Param.Weighed.{most}
-use Rattle.py_syntax.specs.declared.Expr.{Expr, size-Expr}
+use Rattle.py_syntax.specs.declared.Expr.{size-Expr}
 use Rattle.py_syntax.specs.declared.ExprForm.{size-ExprForm}
 use Rattle.py_syntax.specs.ExprItems.{in_turn, expr_items}
 use Rattle.machine_model.proofs.control.expr.+push_expr.Given as goal
