@@ -44,14 +44,7 @@ fn expr(line: u32, col: u32, ty: Ty, form: ExprForm) -> Expr {
     }
 }
 
-fn binary(
-    alloc: Global,
-    col: u32,
-    ty: Ty,
-    key: u16,
-    a: Expr,
-    b: Expr,
-) -> Result<Expr, AllocError> {
+fn binary(alloc: Global, col: u32, ty: Ty, key: u16, a: Expr, b: Expr) -> Result<Expr, AllocError> {
     let form = ExprForm::Bin(key, Boxed::new(alloc, a)?, Boxed::new(alloc, b)?);
     Ok(expr(3, col, ty, form))
 }
@@ -123,7 +116,7 @@ fn a_run_starts_with_the_items_of_main_in_turn(rt: HostRuntime) -> Result<(), Fa
     };
     assert!(rt; thread.frames.pop().is_none());
     assert_eq!(rt; frame.method, 0);
-    assert_eq!(rt; frame.store.as_slice(), &[None]);
+    assert_eq!(rt; frame.store.as_slice(), [None].as_slice());
     for item in [
         "Begin",
         "Num(3)",

@@ -55,7 +55,13 @@ fn push_form(
         ExprForm::Local(i) => control.push(Item::Load(*i)),
         ExprForm::Get(o, field) => push_then(alloc, control, o.get(), Item::Read(place, *field)),
         ExprForm::Un(key, a) => push_then(alloc, control, a.get(), Item::Un(place, *key)),
-        ExprForm::Bin(key, a, b) => push_both(alloc, control, a.get(), b.get(), Item::Bin(place, *key)),
+        ExprForm::Bin(key, a, b) => push_both(
+            alloc,
+            control,
+            a.get(),
+            b.get(),
+            Item::Bin(place, *key),
+        ),
         ExprForm::Chain(all, keys) => push_chain(alloc, control, all, keys),
         ExprForm::And(a, b) => push_and(alloc, control, a, b),
         ExprForm::Or(a, b) => push_or(alloc, control, a, b),
@@ -63,7 +69,13 @@ fn push_form(
         ExprForm::Send(o, name, args) => push_send(alloc, control, o, args, place, *name),
         ExprForm::New(class, args) => push_new(alloc, control, args, place, *class),
         ExprForm::NewLock(class, o, level) => {
-            push_both(alloc, control, o.get(), level.get(), Item::NewLock(place, *class))
+            push_both(
+                alloc,
+                control,
+                o.get(),
+                level.get(),
+                Item::NewLock(place, *class),
+            )
         }
         ExprForm::NewThread(function, args, level) => {
             push_new_thread(alloc, control, args, level, place, *function)

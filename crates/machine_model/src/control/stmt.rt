@@ -40,10 +40,7 @@ pub fn push_block(
 }
 
 /// The control of a method as it is entered.
-pub fn method_control(
-    alloc: Global,
-    method: &Method,
-) -> Result<Stack<Item<Value>>, OutOfMemory>
+pub fn method_control(alloc: Global, method: &Method) -> Result<Stack<Item<Value>>, OutOfMemory>
     ensures { IfOk result (λ control. control ≡ method_items method.now) }
 {
     let mut control = Stack::new(alloc);
