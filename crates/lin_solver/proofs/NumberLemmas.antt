@@ -2,9 +2,10 @@
 use Rattle.std.specs.Prelude.{◌≡◌, ℕ, zero, suc, ◌+◌, ◌<◌, List, [], ◌∷◌, ◌++◌, Option, Some, map, slice_get, length, All, refl}
 use Rattle.std.proofs.Common.{sym, ap, ◌∙◌, subst, arith, append_assoc, append-nil}
 use Rattle.std.proofs.lemmas.Grind.{common_steps}
+use Rattle.std.proofs.lemmas.List.Elements.{All-weaker, All-push}
 use Rattle.lin_rows.specs.declared.row.Row.{Row}
 use Rattle.lin_rows.specs.declared.step.ComboStep.{ComboStep}
-use Rattle.lin_solver.specs.Numbers.{numbered, HasRow, IsPrefix}
+use Rattle.lin_solver.specs.Numbers.{numbered, HasRow, HaveRows, IsPrefix}
 
 pub get_within : {X : Type 0} (xs : List X) (i : ℕ) (x : X) → slice_get xs i ≡ Some x → i < length xs
 get_within [] i x e = absurd (cc)
@@ -73,3 +74,25 @@ has_grows rows old new P i p (r, e, q) = (r, at_grows rows old new i r p e, q)
 -- a row with a property has a weaker one
 pub has_weaker : (rows : List Row) (steps : List ComboStep) (P Q : Row → Type 0) (i : ℕ) → ((r : Row) → P r → Q r) → HasRow rows steps P i → HasRow rows steps Q i
 has_weaker rows steps P Q i f (r, e, p) = (r, e, f r p)
+
+pub have_grows : (rows : List Row) (old new : List ComboStep) (P : Row → Type 0) (is : List ℕ) → IsPrefix old new → HaveRows rows old P is → HaveRows rows new P is
+have_grows rows old new P is p h =
+    All-weaker (HasRow rows old P) (HasRow rows new P) (λ i q. has_grows rows old new P i p q) is h
+
+pub have_weaker : (rows : List Row) (steps : List ComboStep) (P Q : Row → Type 0) (is : List ℕ) → ((r : Row) → P r → Q r) → HaveRows rows steps P is → HaveRows rows steps Q is
+have_weaker rows steps P Q is f h =
+    All-weaker (HasRow rows steps P) (HasRow rows steps Q) (λ i q. has_weaker rows steps P Q i f q) is h
+
+-- one number more, over more steps
+pub have_more : (rows : List Row) (old new : List ComboStep) (P : Row → Type 0) (is : List ℕ) (i : ℕ) → IsPrefix old new → HaveRows rows old P is → HasRow rows new P i → HaveRows rows new P (is ++ i ∷ [])
+have_more rows old new P is i p h q =
+    All-push (HasRow rows new P) is i (have_grows rows old new P is p h) q
+
+pub prefix_same : {X : Type 0} (xs : List X) → IsPrefix xs xs
+prefix_same xs = ([], sym (append-nil xs))
+
+pub prefix_trans : {X : Type 0} (xs ys zs : List X) → IsPrefix xs ys → IsPrefix ys zs → IsPrefix xs zs
+prefix_trans xs ys zs p q = (p.0 ++ q.0, q.1 ∙ ap (λ z. z ++ q.0) p.1 ∙ append_assoc xs p.0 q.0)
+
+pub prefix_more : {X : Type 0} (xs ys zs : List X) (z : X) → zs ≡ ys ++ z ∷ [] → IsPrefix xs ys → IsPrefix xs zs
+prefix_more xs ys zs z is p = prefix_trans xs ys zs p (z ∷ [], is)

@@ -1,5 +1,5 @@
 -- The numbers of rows, and what is said of the rows that have them.
-use Rattle.std.specs.Prelude.{◌≡◌, ℕ, ◌+◌, pos, ◌<ℤ◌, List, ◌++◌, Option, Some, map, slice_get, All}
+use Rattle.std.specs.Prelude.{◌≡◌, ℕ, ◌+◌, pos, ◌<ℤ◌, List, ◌++◌, Option, Some, map, slice_get, All, Contains}
 use Rattle.lin_rows.specs.declared.row.Row.{Row}
 use Rattle.lin_rows.specs.declared.step.ComboStep.{ComboStep}
 use Rattle.lin_rows.specs.Terms.{coef_at}
@@ -34,6 +34,14 @@ BoundsBelow rows v r = Derived rows v r × (coef_at r.coefs v <ℤ pos 0)
 -- the row is the sum of those of two numbers that cancels `v`
 abbrev pub IsSumOf : List Row → List ComboStep → ℕ → ℕ → ℕ → Row → Type 0
 IsSumOf rows steps v i j r = HasRow rows steps (λ a. HasRow rows steps (λ b. IsElimination v a b r) j) i
+
+-- a sum that cancels `v` in the rows of the two is among the next ones
+abbrev pub IsCovered : List Row → List ComboStep → ℕ → List ℕ → ℕ → ℕ → Type 0
+IsCovered rows steps v next i j = (n : ℕ) × Contains next n × HasRow rows steps (IsSumOf rows steps v i j) n
+
+-- so is one for each two of these
+abbrev pub AreCovered : List Row → List ComboStep → ℕ → List ℕ → List ℕ → List ℕ → Type 0
+AreCovered rows steps v next above below = All (λ i. All (IsCovered rows steps v next i) below) above
 
 -- the one list begins with the other
 abbrev pub IsPrefix : {X : Type 0} → List X → List X → Type 0

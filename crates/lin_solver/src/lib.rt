@@ -6,5 +6,6 @@ mod multipliers;
 mod numbers;
 mod stop;
 mod sums;
+mod variables;
 
 pub use stop::Stop;

@@ -1,12 +1,12 @@
 // The steps that cancel a variable.
-ghost use Rattle.std.specs.Prelude.{◌≡◌, pos, ◌+◌, ◌<ℤ◌, ◌↔◌, IsTrue, IfOk, IfErr, OnOk, map, Some};
+ghost use Rattle.std.specs.Prelude.{◌≡◌, pos, ◌+◌, ◌<ℤ◌, ◌↔◌, IsTrue, IfOk, IfErr, OnOk, All, map, Some};
 ghost use Rattle.lin_rows.specs.Terms.{coef_at};
 ghost use Rattle.lin_rows.specs.Rows.{IsSum, SumFits};
 ghost use Rattle.lin_rows.specs.Lowest.{IsLowest, IsWideElimination};
 ghost use Rattle.lin_rows.specs.Steps.{IsFalse, StepHolds, StepsHold};
 ghost use Rattle.lin_rows.specs.WidePoints.{IsWidePair};
 ghost use Rattle.lin_rows.specs.declared.fault.RowFault.TheVariants.{Wide};
-ghost use Rattle.lin_solver.specs.Numbers.{numbered, HasRow, IsLive, BoundsAbove, BoundsBelow, IsSumOf, IsPrefix};
+ghost use Rattle.lin_solver.specs.Numbers.{numbered, HasRow, HaveRows, IsLive, BoundsAbove, BoundsBelow, IsSumOf, IsCovered, AreCovered, IsPrefix};
 ghost use Rattle.lin_solver.specs.Stops.{IsStop};
 
 use crate::multipliers::lowest;
@@ -118,4 +118,55 @@ fn add_sum(
         return Err(Stop::Refuted);
     }
     Ok(number)
+}
+
+/// Adds the steps that cancel `var` in the row of a number and in each of others.
+fn add_sums_of(
+    alloc: Global,
+    rows: &[Row],
+    steps: &mut Items<ComboStep>,
+    left: u32,
+    below: &[u32],
+    var: u32,
+    next: &mut Items<u32>,
+) -> Result<(), Stop>
+    requires left { HasRow rows.now steps.old (BoundsAbove rows.now var) left }
+    requires below { HaveRows rows.now steps.old (BoundsBelow rows.now var) below.now }
+    requires live { HaveRows rows.now steps.old (IsLive rows.now (var + 1)) next.old }
+    ensures kept { StepsHold (map Some rows.now) steps.old → StepsHold (map Some rows.now) steps.new }
+    ensures grown { IsPrefix steps.old steps.new × IsPrefix next.old next.new }
+    ensures live { OnOk result (HaveRows rows.now steps.new (IsLive rows.now (var + 1)) next.new) }
+    ensures covered { OnOk result (All (IsCovered rows.now steps.new var next.new left) below.now) }
+    ensures stops { IfErr result (IsStop rows.now steps.new) }
+{
+    for right in below {
+        let number = add_sum(alloc, rows, steps, left, *right, var)?;
+        next.push(number)?;
+    }
+    Ok(())
+}
+
+/// Adds the steps that cancel `var` in each two rows that bound it from above and below.
+pub fn add_sums(
+    alloc: Global,
+    rows: &[Row],
+    steps: &mut Items<ComboStep>,
+    above: &[u32],
+    below: &[u32],
+    var: u32,
+    next: &mut Items<u32>,
+) -> Result<(), Stop>
+    requires above { HaveRows rows.now steps.old (BoundsAbove rows.now var) above.now }
+    requires below { HaveRows rows.now steps.old (BoundsBelow rows.now var) below.now }
+    requires live { HaveRows rows.now steps.old (IsLive rows.now (var + 1)) next.old }
+    ensures kept { StepsHold (map Some rows.now) steps.old → StepsHold (map Some rows.now) steps.new }
+    ensures grown { IsPrefix steps.old steps.new × IsPrefix next.old next.new }
+    ensures live { OnOk result (HaveRows rows.now steps.new (IsLive rows.now (var + 1)) next.new) }
+    ensures covered { OnOk result (AreCovered rows.now steps.new var next.new above.now below.now) }
+    ensures stops { IfErr result (IsStop rows.now steps.new) }
+{
+    for left in above {
+        add_sums_of(alloc, rows, steps, *left, below, var, next)?;
+    }
+    Ok(())
 }

@@ -1,0 +1,42 @@
+-- Laws of the least variable.
+use Rattle.std.specs.Prelude.{◌≡◌, ◌≢◌, ℕ, ◌+◌, ◌≤◌, ◌<◌, ℤ, pos, List, [], ◌∷◌, Option, Some, None, ◌⊎◌, IfSome, IfNone, All, Contains, take, get_or, length, refl}
+use Rattle.std.proofs.Common.{sym, ap, ◌∙◌, subst, arith, inl, inr}
+use Rattle.std.proofs.lemmas.List.Elements.{All-weaker, All-more}
+use Rattle.lin_rows.specs.declared.row.Row.{Row}
+use Rattle.lin_rows.specs.Terms.{IsAbove, coef_at}
+use Rattle.lin_rows.specs.TermLaws.{coef-first, coef-below}
+use Rattle.lin_rows.specs.Derived.{Occurs}
+use Rattle.lin_solver.specs.Variables.{HasNoneFrom, HasNoneBetween}
+
+-- the first term's variable stands in the terms
+pub first_stands : (low : ℕ) (rest ts : List (ℕ × ℤ)) (t : ℕ × ℤ) → rest ≡ t ∷ ts → IsAbove low rest → coef_at rest t.0 ≢ pos 0
+first_stands low rest ts t e above none =
+    let above' : IsAbove low (t ∷ ts) = subst (IsAbove low) e above in
+    above'.1 (sym (coef-first t.0 t.0 t.1 ts refl above'.2) ∙ sym (ap (λ z. coef_at z t.0) e) ∙ none)
+
+-- and none below it
+pub first_least : (low : ℕ) (rest ts : List (ℕ × ℤ)) (t : ℕ × ℤ) (w : ℕ) → rest ≡ t ∷ ts → IsAbove low rest → w < t.0 → coef_at rest w ≡ pos 0
+first_least low rest ts t w e above lt =
+    let above' : IsAbove low (t ∷ ts) = subst (IsAbove low) e above in
+    ap (λ z. coef_at z w) e ∙ coef-below t.0 (t ∷ ts) w (same t.0, above'.1, above'.2) lt
+  where
+    same : (n : ℕ) → n ≤ n
+    same n = omega arith
+
+-- below the lesser of two there is none
+pub row_below : (from v : ℕ) (ts : List (ℕ × ℤ)) (o : Option ℕ) → IfNone o (HasNoneFrom from ts) → IfSome o (λ w. HasNoneBetween from w ts) → IfSome o (λ w. v ≤ w) → HasNoneBetween from v ts
+row_below from v ts None none least le w low high = none w low
+row_below from v ts (Some u) none least le w low high = least w low (omega arith)
+
+pub rows_below : (from v : ℕ) (rows : List Row) (o : Option ℕ) → IfNone o (All (λ r. HasNoneFrom from r.coefs) rows) → IfSome o (λ w. All (λ r. HasNoneBetween from w r.coefs) rows) → IfSome o (λ w. v ≤ w) → All (λ r. HasNoneBetween from v r.coefs) rows
+rows_below from v rows None none least le =
+    All-weaker (λ r. HasNoneFrom from r.coefs) (λ r. HasNoneBetween from v r.coefs) (λ r h w low high. h w low) rows none
+rows_below from v rows (Some u) none least le =
+    All-weaker (λ r. HasNoneBetween from u r.coefs) (λ r. HasNoneBetween from v r.coefs) (λ r h w low high. h w low (omega arith)) rows least
+
+-- what holds of the variable in one place or the other holds of the lesser
+pub either : (P : ℕ → Type 0) (a b : Option ℕ) (v : ℕ) → IfSome a P → IfSome b P → (a ≡ Some v) ⊎ (b ≡ Some v) → P v
+either P None b v p q (inl e) = absurd (cc)
+either P (Some u) b v p q (inl e) = let same : u ≡ v = cc in subst P same p
+either P a None v p q (inr e) = absurd (cc)
+either P a (Some u) v p q (inr e) = let same : u ≡ v = cc in subst P same q
