@@ -1,3 +1,4 @@
 mod NumberLemmas
 mod StepLemmas
 mod VariableLemmas
+mod PartLemmas

@@ -22,21 +22,3 @@ first_least low rest ts t w e above lt =
   where
     same : (n : ℕ) → n ≤ n
     same n = omega arith
-
--- below the lesser of two there is none
-pub row_below : (from v : ℕ) (ts : List (ℕ × ℤ)) (o : Option ℕ) → IfNone o (HasNoneFrom from ts) → IfSome o (λ w. HasNoneBetween from w ts) → IfSome o (λ w. v ≤ w) → HasNoneBetween from v ts
-row_below from v ts None none least le w low high = none w low
-row_below from v ts (Some u) none least le w low high = least w low (omega arith)
-
-pub rows_below : (from v : ℕ) (rows : List Row) (o : Option ℕ) → IfNone o (All (λ r. HasNoneFrom from r.coefs) rows) → IfSome o (λ w. All (λ r. HasNoneBetween from w r.coefs) rows) → IfSome o (λ w. v ≤ w) → All (λ r. HasNoneBetween from v r.coefs) rows
-rows_below from v rows None none least le =
-    All-weaker (λ r. HasNoneFrom from r.coefs) (λ r. HasNoneBetween from v r.coefs) (λ r h w low high. h w low) rows none
-rows_below from v rows (Some u) none least le =
-    All-weaker (λ r. HasNoneBetween from u r.coefs) (λ r. HasNoneBetween from v r.coefs) (λ r h w low high. h w low (omega arith)) rows least
-
--- what holds of the variable in one place or the other holds of the lesser
-pub either : (P : ℕ → Type 0) (a b : Option ℕ) (v : ℕ) → IfSome a P → IfSome b P → (a ≡ Some v) ⊎ (b ≡ Some v) → P v
-either P None b v p q (inl e) = absurd (cc)
-either P (Some u) b v p q (inl e) = let same : u ≡ v = cc in subst P same p
-either P a None v p q (inr e) = absurd (cc)
-either P a (Some u) v p q (inr e) = let same : u ≡ v = cc in subst P same q

@@ -1,3 +1,4 @@
 pub mod Numbers
 pub mod Stops
 pub mod Variables
+pub mod Levels

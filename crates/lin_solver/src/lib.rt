@@ -2,10 +2,14 @@
 //! them all.
 #![tactic(auto)]
 
+mod given;
+mod levels;
 mod multipliers;
 mod numbers;
+mod parts;
 mod stop;
 mod sums;
 mod variables;
 
+pub use levels::Level;
 pub use stop::Stop;
