@@ -2,3 +2,4 @@ mod NumberLemmas
 mod StepLemmas
 mod VariableLemmas
 mod PartLemmas
+mod LevelLemmas

@@ -1,5 +1,5 @@
 -- What elimination leaves: a level for each variable, in ascending order.
-use Rattle.std.specs.Prelude.{ℕ, ◌+◌, List, [], ◌∷◌, ◌⊎◌, All, Contains}
+use Rattle.std.specs.Prelude.{ℕ, ◌+◌, ◌<◌, List, [], ◌∷◌, length, ◌⊎◌, All, Contains}
 use Rattle.lin_rows.specs.declared.row.Row.{Row}
 use Rattle.lin_rows.specs.declared.step.ComboStep.{ComboStep}
 use Rattle.lin_solver.specs.Numbers.{HaveRows, IsLive, BoundsAbove, BoundsBelow, AreCovered}
@@ -23,3 +23,7 @@ pub record IsLevel (rows : List Row) (steps : List ComboStep) (live : List ℕ) 
 abbrev pub AreLevels : List Row → List ComboStep → ℕ → List ℕ → List Level → Type 0
 AreLevels rows steps from live [] = HaveRows rows steps (IsLive rows from) live × All (λ r. HasNoneFrom from r.coefs) rows
 AreLevels rows steps from live (level ∷ levels) = IsNextVariable rows from level.var × ((next : List ℕ) × IsLevel rows steps live level next × AreLevels rows steps (level.var + 1) next levels)
+
+-- the levels of the rows handed in, which are all live before the first variable
+abbrev pub AreLevelsOf : List Row → List ComboStep → List Level → Type 0
+AreLevelsOf rows steps levels = (first : List ℕ) × ((i : ℕ) → i < length rows → Contains first i) × AreLevels rows steps 0 first levels

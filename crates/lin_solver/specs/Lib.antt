@@ -2,3 +2,4 @@ pub mod Numbers
 pub mod Stops
 pub mod Variables
 pub mod Levels
+pub mod Answers

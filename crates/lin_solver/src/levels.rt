@@ -3,7 +3,7 @@ ghost use Rattle.std.specs.Prelude.{◌≡◌, ℕ, ◌+◌, ◌<◌, ◌^◌, L
 ghost use Rattle.lin_rows.specs.Steps.{StepsHold};
 ghost use Rattle.lin_solver.specs.Numbers.{HaveRows, IsLive, IsPrefix};
 ghost use Rattle.lin_solver.specs.Variables.{IsNextVariable};
-ghost use Rattle.lin_solver.specs.Levels.{IsLevel, AreLevels};
+ghost use Rattle.lin_solver.specs.Levels.{IsLevel, AreLevelsOf};
 ghost use Rattle.lin_solver.specs.Stops.{IsStop};
 
 use crate::given::given;
@@ -57,4 +57,27 @@ fn eliminate_one(
         level: Level { var, above, below },
         next,
     })
+}
+
+/// Eliminates the variables of rows in ascending order.
+pub fn levels_of(
+    alloc: Global,
+    rows: &[Row],
+    steps: &mut Items<ComboStep>,
+) -> Result<Items<Level>, Stop>
+    requires few { length rows.now < 2 ^ 32 }
+    ensures kept { StepsHold (map Some rows.now) steps.old → StepsHold (map Some rows.now) steps.new }
+    ensures levels { IfOk result (AreLevelsOf rows.now steps.new) }
+    ensures stops { IfErr result (IsStop rows.now steps.new) }
+{
+    let mut live = given(alloc, rows, steps)?;
+    let mut levels = Items::new(alloc);
+    let mut from = 0;
+    while let Some(var) = next_variable(rows, from) {
+        let Step { level, next } = eliminate_one(alloc, rows, steps, live.as_slice(), var)?;
+        levels.push(level)?;
+        live = next;
+        from = var as u64 + 1;
+    }
+    Ok(levels)
 }

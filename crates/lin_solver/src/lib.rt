@@ -2,6 +2,7 @@
 //! them all.
 #![tactic(auto)]
 
+mod elimination;
 mod given;
 mod levels;
 mod multipliers;
@@ -11,5 +12,5 @@ mod stop;
 mod sums;
 mod variables;
 
+pub use elimination::{Eliminated, eliminate_all};
 pub use levels::Level;
-pub use stop::Stop;

@@ -1,5 +1,6 @@
-use Rattle.std.specs.Prelude.{◌≡◌, [], ◌∷◌, ◌++◌, Some, slice_get}
-use Rattle.std.proofs.Common.{rules, sym, ◌∙◌}
+use Rattle.std.specs.Prelude.{◌≡◌, [], ◌∷◌, ◌++◌, ◌<◌, length, Some, slice_get}
+use Rattle.std.proofs.Common.{rules, sym, ap, ◌∙◌}
+use Rattle.std.proofs.lemmas.Option.{slice_get-get_or}
 use Rattle.std.proofs.lemmas.List.Elements.{All-push}
 use Rattle.lin_solver.specs.Numbers.{HasRow, IsLive}
 use Rattle.lin_solver.proofs.NumberLemmas.{prefix_same, prefix_more}
@@ -37,7 +38,8 @@ loop-number-preserved c =
     let steps = c.args.steps.now in
     let n = c.loop-number.number in
     let inv = c.loop-number.invariant in
-    let at : slice_get rows n ≡ Some c.index-rows-number.result = search rules in
+    let lt : n < length rows = search rules in
+    let at : slice_get rows n ≡ Some c.index-rows-number.result = slice_get-get_or rows n _ lt ∙ ap Some (sym c.index-rows-number.is) in
     let pushed : c.push-in-loop-number.new.self ≡ c.loop-number.numbers ++ n ∷ [] = c.in_ok-push-2.ensures.ok in record {
       same = inv.same;
       live = rw pushed (All-push (HasRow rows steps (IsLive rows 0)) c.loop-number.numbers n inv.live (given_live rows steps n c.index-rows-number.result at (search rules)));
