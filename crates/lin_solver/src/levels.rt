@@ -52,7 +52,15 @@ fn eliminate_one(
         without,
     } = part(alloc, rows, steps.as_slice(), live, var)?;
     let mut next = without;
-    add_sums(alloc, rows, steps, above.as_slice(), below.as_slice(), var, &mut next)?;
+    add_sums(
+        alloc,
+        rows,
+        steps,
+        above.as_slice(),
+        below.as_slice(),
+        var,
+        &mut next,
+    )?;
     Ok(Step {
         level: Level { var, above, below },
         next,

@@ -14,3 +14,6 @@ mod variables;
 
 pub use elimination::{Eliminated, eliminate_all};
 pub use levels::Level;
+
+#[cfg(test)]
+mod tests;

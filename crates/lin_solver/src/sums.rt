@@ -44,7 +44,15 @@ fn sum_of(alloc: Global, a: &Row, b: &Row, var: u32) -> Result<Sum, RowFault>
 }
 
 /// Why the sum of two rows isn't made.
-fn stop_at(alloc: Global, fault: RowFault, a: &Row, b: &Row, var: u32, rows: &[Row], steps: &[ComboStep]) -> Stop
+fn stop_at(
+    alloc: Global,
+    fault: RowFault,
+    a: &Row,
+    b: &Row,
+    var: u32,
+    rows: &[Row],
+    steps: &[ComboStep],
+) -> Stop
     requires { fault ≡ Wide → IsWidePair rows.now a.now b.now var }
     ensures { IsStop rows.now steps.now result }
 {
