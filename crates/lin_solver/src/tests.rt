@@ -49,11 +49,12 @@ fn kind_of(eliminated: &Eliminated) -> Answer {
     }
 }
 
-// What comes of these rows.
-fn answer_of(alloc: Global, given: &[(&[(u32, i128)], i128)]) -> Option<Answer> {
+// What comes of these rows, each the coefficients of three variables and a bound.
+fn answer_of(alloc: Global, given: &[([i128; 3], i128)]) -> Option<Answer> {
     let mut rows = Items::new(alloc);
-    for (terms, bound) in given {
-        rows.push(row(alloc, terms, *bound).ok()?).ok()?;
+    for (coefs, bound) in given {
+        let terms = [(0, coefs[0]), (1, coefs[1]), (2, coefs[2])];
+        rows.push(row(alloc, terms.as_slice(), *bound).ok()?).ok()?;
     }
     if rows.len() as u128 >= 1 << 32 {
         return None;
@@ -62,74 +63,71 @@ fn answer_of(alloc: Global, given: &[(&[(u32, i128)], i128)]) -> Option<Answer> 
     Some(kind_of(&eliminated))
 }
 
+// A row without terms that is always met.
+const NONE: ([i128; 3], i128) = ([0, 0, 0], 0);
+
 #[test]
 fn rows_are_refuted_or_eliminated(rt: HostRuntime) -> Result<(), Fail> {
     let alloc = rt.alloc();
+    assert_eq!(rt; answer_of(alloc, [].as_slice()), Some(Answer::Levels(0, 0)));
     for (name, rows, wanted) in [
         (
             "0 or less, and 1 or more",
-            [([(0, 1)].as_slice(), 0), ([(0, -1)].as_slice(), -1)].as_slice(),
+            [([1, 0, 0], 0), ([-1, 0, 0], -1), NONE, NONE],
             Answer::Combination(1, -1),
         ),
         (
             "0 or less",
-            [([(0, 1)].as_slice(), 0)].as_slice(),
+            [([1, 0, 0], 0), NONE, NONE, NONE],
             Answer::Levels(0, 1),
         ),
-        ("no rows", [].as_slice(), Answer::Levels(0, 0)),
         (
             "no terms, bound 0",
-            [([].as_slice(), 0)].as_slice(),
+            [NONE, NONE, NONE, NONE],
             Answer::Levels(0, 0),
         ),
         (
             "no terms, bound -1",
-            [([(3, 1)].as_slice(), 5), ([].as_slice(), -1)].as_slice(),
+            [([0, 0, 1], 5), ([0, 0, 0], -1), NONE, NONE],
             Answer::Combination(1, -1),
         ),
         (
             "equal rows",
-            [
-                ([(0, -1), (4, 2)].as_slice(), 3),
-                ([(0, -1), (4, 2)].as_slice(), 3),
-                ([(0, 1), (4, -2)].as_slice(), -4),
-            ]
-            .as_slice(),
+            [([-1, 0, 2], 3), ([-1, 0, 2], 3), ([1, 0, -2], -4), NONE],
             Answer::Combination(1, -1),
         ),
         (
-            "the greatest number and the least but one",
-            [([(0, MAX)].as_slice(), 0), ([(0, MIN + 1)].as_slice(), -1)].as_slice(),
+            "the greatest number and its opposite",
+            [([MAX, 0, 0], 0), ([-MAX, 0, 0], -1), NONE, NONE],
             Answer::Combination(1, -1),
         ),
         (
             "the least number",
-            [([(0, MIN)].as_slice(), 0), ([(0, 1)].as_slice(), 0)].as_slice(),
+            [([MIN, 0, 0], 0), ([1, 0, 0], 0), NONE, NONE],
             Answer::Pair(0),
         ),
         (
             "a half",
-            [([(0, 2)].as_slice(), 1), ([(0, -2)].as_slice(), -1)].as_slice(),
+            [([2, 0, 0], 1), ([-2, 0, 0], -1), NONE, NONE],
             Answer::Levels(1, 1),
         ),
         (
-            "a bound that is wide",
-            [([(7, 3)].as_slice(), 0), ([(7, -2)].as_slice(), MIN)].as_slice(),
-            Answer::Pair(7),
+            "a product with a bound",
+            [([0, 3, 0], 0), ([0, -2, 0], MIN), NONE, NONE],
+            Answer::Pair(1),
         ),
         (
             "three variables with all signs",
             [
-                ([(0, 1), (1, 1), (2, 1)].as_slice(), 0),
-                ([(0, -1), (1, -1), (2, 1)].as_slice(), 0),
-                ([(0, 1), (1, -1), (2, -1)].as_slice(), 0),
-                ([(0, -1), (1, 1), (2, -1)].as_slice(), -1),
-            ]
-            .as_slice(),
+                ([1, 1, 1], 0),
+                ([-1, -1, 1], 0),
+                ([1, -1, -1], 0),
+                ([-1, 1, -1], -1),
+            ],
             Answer::Combination(5, -1),
         ),
     ] {
-        assert_eq!(rt; answer_of(alloc, rows), Some(wanted), "{name}");
+        assert_eq!(rt; answer_of(alloc, rows.as_slice()), Some(wanted), "{name}");
     }
     Ok(())
 }
