@@ -1,5 +1,5 @@
 -- Laws of levels.
-use Rattle.std.specs.Prelude.{◌≡◌, ℕ, ◌+◌, ◌≤◌, ◌<◌, pos, List, [], ◌∷◌, ◌++◌, map, Some, length, All, Contains}
+use Rattle.std.specs.Prelude.{◌≡◌, ℕ, ◌+◌, ◌≤◌, ◌<◌, pos, List, [], ◌∷◌, ◌++◌, All}
 use Rattle.std.proofs.Common.{sym, ap, ◌∙◌, subst, arith, append_assoc, append-nil, ⊎_elim, ◌-◌}
 use Rattle.std.proofs.lemmas.Bool.{cases_lt}
 use Rattle.std.proofs.lemmas.List.Elements.{All-weaker}
@@ -8,7 +8,7 @@ use Rattle.lin_rows.specs.declared.step.ComboStep.{ComboStep}
 use Rattle.lin_rows.specs.Terms.{coef_at}
 use Rattle.lin_rows.specs.Derived.{Derived}
 use Rattle.lin_rows.specs.DerivedLaws.{derived-below, derived-absent, derived-later}
-use Rattle.lin_solver.specs.Numbers.{HasRow, HaveRows, IsLive, BoundsAbove, BoundsBelow, IsPrefix}
+use Rattle.lin_solver.specs.Numbers.{HaveRows, IsLive, BoundsAbove, BoundsBelow, IsPrefix}
 use Rattle.lin_solver.specs.Variables.{HasNoneFrom, HasNoneBetween, IsNextVariable}
 use Rattle.lin_solver.specs.Levels.{IsLevel, AreLevels}
 use Rattle.lin_solver.specs.declared.levels.Level.{Level}

@@ -1,7 +1,7 @@
 -- Laws of a step that is added.
-use Rattle.std.specs.Prelude.{◌≡◌, ℕ, ◌+◌, ◌<◌, ℤ, pos, ◌<ℤ◌, ◌*ℤ◌, ◌+ℤ◌, Option, FitsSigned, List, [], ◌∷◌, ◌++◌, Some, map, slice_get, length, Contains, All, refl}
+use Rattle.std.specs.Prelude.{◌≡◌, ℕ, ◌+◌, ◌<◌, ℤ, pos, ◌*ℤ◌, ◌+ℤ◌, Option, FitsSigned, List, [], ◌∷◌, ◌++◌, Some, map, slice_get, length, Contains, All, refl}
 use Rattle.std.proofs.Common.{sym, ap, ◌∙◌, subst, arith}
-use Rattle.std.proofs.lemmas.List.Elements.{All-weaker, All-push, Contains-push, Contains-append_left}
+use Rattle.std.proofs.lemmas.List.Elements.{All-weaker, Contains-push, Contains-append_left}
 use Rattle.std.proofs.lemmas.Option.{get_or_from_slice_get}
 use Rattle.std.specs.Int.{w128}
 use Rattle.std.proofs.lemmas.Int.{ints}
@@ -9,13 +9,12 @@ use Rattle.lin_rows.specs.Rows.{MixFits}
 use Rattle.lin_rows.specs.declared.row.Row.{Row}
 use Rattle.lin_rows.specs.declared.step.ComboStep.{ComboStep}
 use Rattle.lin_rows.specs.Terms.{coef_at}
-use Rattle.lin_rows.specs.Lowest.{IsElimination}
 use Rattle.lin_rows.specs.Derived.{Derived, given, summed}
 use Rattle.lin_rows.specs.Steps.{StepHolds, StepsHold, IsFalse}
 use Rattle.lin_rows.specs.StepLaws.{steps-push}
 use Rattle.lin_rows.specs.TermLaws.{at_or_not}
 use Rattle.lin_solver.specs.Numbers.{numbered, HasRow, IsLive, BoundsAbove, BoundsBelow, IsSumOf, IsCovered, AreCovered, IsPrefix}
-use Rattle.lin_solver.proofs.NumberLemmas.{get_within, get_back, one_row, at_given, at_step, at_grows, has_grows}
+use Rattle.lin_solver.proofs.NumberLemmas.{get_within, get_back, one_row, at_given, at_step, at_grows}
 
 -- the steps hold with one more
 pub step_kept : (rows : List Row) (old new : List ComboStep) (s : ComboStep) → new ≡ old ++ s ∷ [] → StepHolds (numbered rows old) s → StepsHold (map Some rows) old → StepsHold (map Some rows) new

@@ -1,12 +1,8 @@
 -- Laws of the least variable.
-use Rattle.std.specs.Prelude.{◌≡◌, ◌≢◌, ℕ, ◌+◌, ◌≤◌, ◌<◌, ℤ, pos, List, [], ◌∷◌, Option, Some, None, ◌⊎◌, IfSome, IfNone, All, Contains, take, get_or, length, refl}
-use Rattle.std.proofs.Common.{sym, ap, ◌∙◌, subst, arith, inl, inr}
-use Rattle.std.proofs.lemmas.List.Elements.{All-weaker, All-more}
-use Rattle.lin_rows.specs.declared.row.Row.{Row}
+use Rattle.std.specs.Prelude.{◌≡◌, ◌≢◌, ℕ, ◌≤◌, ◌<◌, ℤ, pos, List, ◌∷◌, refl}
+use Rattle.std.proofs.Common.{sym, ap, ◌∙◌, subst, arith}
 use Rattle.lin_rows.specs.Terms.{IsAbove, coef_at}
 use Rattle.lin_rows.specs.TermLaws.{coef-first, coef-below}
-use Rattle.lin_rows.specs.Derived.{Occurs}
-use Rattle.lin_solver.specs.Variables.{HasNoneFrom, HasNoneBetween}
 
 -- the first term's variable stands in the terms
 pub first_stands : (low : ℕ) (rest ts : List (ℕ × ℤ)) (t : ℕ × ℤ) → rest ≡ t ∷ ts → IsAbove low rest → coef_at rest t.0 ≢ pos 0

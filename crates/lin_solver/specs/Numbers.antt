@@ -1,11 +1,11 @@
 -- The numbers of rows, and what is said of the rows that have them.
-use Rattle.std.specs.Prelude.{◌≡◌, ℕ, ◌+◌, pos, ◌<ℤ◌, List, ◌++◌, Option, Some, map, slice_get, All, Contains}
+use Rattle.std.specs.Prelude.{◌≡◌, ℕ, pos, ◌<ℤ◌, List, ◌++◌, Option, Some, map, slice_get, All, Contains}
 use Rattle.lin_rows.specs.declared.row.Row.{Row}
 use Rattle.lin_rows.specs.declared.step.ComboStep.{ComboStep}
 use Rattle.lin_rows.specs.Terms.{coef_at}
 use Rattle.lin_rows.specs.Lowest.{IsElimination}
 use Rattle.lin_rows.specs.Derived.{Derived}
-use Rattle.lin_rows.specs.Steps.{all_rows, IsFalse, StepHolds}
+use Rattle.lin_rows.specs.Steps.{all_rows, IsFalse}
 
 -- the rows handed in, and then those of the steps
 abbrev pub numbered : List Row → List ComboStep → List (Option Row)

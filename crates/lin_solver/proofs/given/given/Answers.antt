@@ -3,7 +3,7 @@ use Rattle.std.proofs.Common.{rules, sym, ap, ◌∙◌}
 use Rattle.std.proofs.lemmas.Option.{slice_get-get_or}
 use Rattle.std.proofs.lemmas.List.Elements.{All-push}
 use Rattle.lin_solver.specs.Numbers.{HasRow, IsLive}
-use Rattle.lin_solver.proofs.NumberLemmas.{prefix_same, prefix_more}
+use Rattle.lin_solver.proofs.NumberLemmas.{prefix_same}
 use Rattle.lin_solver.proofs.StepLemmas.{step_kept, given_live, all_numbers_more}
 use Rattle.lin_solver.proofs.given.given.Goals as goal
 

@@ -1,6 +1,4 @@
-use Rattle.std.specs.Prelude.{◌≡◌, ◌+◌}
-use Rattle.std.proofs.Common.{rules, sym, subst}
-use Rattle.lin_solver.specs.Numbers.{HaveRows, IsLive, BoundsAbove, BoundsBelow, AreCovered}
+use Rattle.lin_solver.specs.Numbers.{BoundsAbove, BoundsBelow}
 use Rattle.lin_solver.proofs.NumberLemmas.{have_grows, prefix_same}
 use Rattle.lin_solver.proofs.PartLemmas.{all_in_part_grow}
 use Rattle.lin_solver.proofs.levels.eliminate_one.Goals as goal

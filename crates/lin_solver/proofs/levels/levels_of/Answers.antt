@@ -1,4 +1,4 @@
-use Rattle.std.specs.Prelude.{◌≡◌, [], ◌∷◌, ◌++◌, ◌<◌, ◌^◌}
+use Rattle.std.specs.Prelude.{◌<◌, ◌^◌}
 use Rattle.std.proofs.Common.{rules, arith}
 use Rattle.lin_solver.proofs.LevelLemmas.{live_next, leads_more, leads_last}
 use Rattle.lin_solver.proofs.levels.levels_of.Goals as goal

@@ -1,5 +1,5 @@
-use Rattle.std.specs.Prelude.{◌≡◌, ℤ, pos, ◌<ℤ◌, ◌+◌, [], ◌∷◌, ◌++◌, get_or, take, refl}
-use Rattle.std.proofs.Common.{rules, arith, inl, inr, ◌∙◌}
+use Rattle.std.specs.Prelude.{◌≡◌, pos, ◌<ℤ◌, ◌+◌, [], ◌∷◌, ◌++◌, get_or, take, refl}
+use Rattle.std.proofs.Common.{arith, inl, inr, ◌∙◌}
 use Rattle.std.proofs.lemmas.Int.{ints}
 use Rattle.std.proofs.lemmas.List.{take_all}
 use Rattle.std.proofs.lemmas.List.Elements.{All-more, All-push, Contains-push}

@@ -1,4 +1,4 @@
-use Rattle.std.specs.Prelude.{◌≡◌, [], ◌∷◌, ◌++◌, ◌+◌, length}
+use Rattle.std.specs.Prelude.{◌≡◌, ◌+◌, length}
 use Rattle.std.proofs.Common.{rules}
 use Rattle.lin_solver.proofs.StepLemmas.{step_kept, step_live, step_sum}
 use Rattle.lin_solver.proofs.sums.add_sum.Goals as goal

@@ -1,5 +1,5 @@
-use Rattle.std.specs.Prelude.{◌≡◌, ◌+◌, get_or, take, All}
-use Rattle.std.proofs.Common.{rules, arith}
+use Rattle.std.specs.Prelude.{take, All}
+use Rattle.std.proofs.Common.{arith}
 use Rattle.std.proofs.lemmas.List.{take_all}
 use Rattle.std.proofs.lemmas.List.Elements.{All-more}
 use Rattle.lin_solver.specs.Numbers.{BoundsAbove, BoundsBelow, IsCovered}

@@ -1,8 +1,8 @@
-use Rattle.std.specs.Prelude.{◌≡◌, [], ◌∷◌, ◌++◌, ◌+◌, get_or, take}
+use Rattle.std.specs.Prelude.{◌≡◌, [], ◌∷◌, ◌++◌, ◌+◌, take}
 use Rattle.std.proofs.Common.{rules, arith}
 use Rattle.std.proofs.lemmas.List.{take_all}
 use Rattle.std.proofs.lemmas.List.Elements.{All-more}
-use Rattle.lin_solver.specs.Numbers.{BoundsAbove, BoundsBelow, IsLive, IsCovered, HasRow, IsSumOf}
+use Rattle.lin_solver.specs.Numbers.{BoundsAbove, BoundsBelow, IsLive, IsCovered}
 use Rattle.lin_solver.proofs.NumberLemmas.{has_grows, have_more, prefix_trans, prefix_more, prefix_same}
 use Rattle.lin_solver.proofs.StepLemmas.{all_covered_grow, covered_last}
 use Rattle.lin_solver.proofs.sums.add_sums_of.Goals as goal

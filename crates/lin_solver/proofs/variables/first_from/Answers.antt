@@ -1,5 +1,5 @@
-use Rattle.std.specs.Prelude.{◌≡◌, ℕ, ℤ, pos, drop, get_or, FitsSigned}
-use Rattle.std.proofs.Common.{rules, sym, ◌∙◌, arith}
+use Rattle.std.specs.Prelude.{ℕ, ℤ, pos, drop}
+use Rattle.std.proofs.Common.{sym, ◌∙◌, arith}
 use Rattle.std.proofs.lemmas.List.{drop_more}
 use Rattle.lin_solver.proofs.VariableLemmas.{first_stands, first_least}
 use Rattle.lin_solver.proofs.variables.first_from.Goals as goal
