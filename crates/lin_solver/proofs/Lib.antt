@@ -1,0 +1,5 @@
+mod NumberLemmas
+mod StepLemmas
+mod VariableLemmas
+mod PartLemmas
+mod LevelLemmas

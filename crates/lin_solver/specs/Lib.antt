@@ -1,0 +1,5 @@
+pub mod Numbers
+pub mod Stops
+pub mod Variables
+pub mod Levels
+pub mod Answers

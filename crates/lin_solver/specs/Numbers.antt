@@ -1,0 +1,48 @@
+-- The numbers of rows, and what is said of the rows that have them.
+use Rattle.std.specs.Prelude.{◌≡◌, ℕ, pos, ◌<ℤ◌, List, ◌++◌, Option, Some, map, slice_get, All, Contains}
+use Rattle.lin_rows.specs.declared.row.Row.{Row}
+use Rattle.lin_rows.specs.declared.step.ComboStep.{ComboStep}
+use Rattle.lin_rows.specs.Terms.{coef_at}
+use Rattle.lin_rows.specs.Lowest.{IsElimination}
+use Rattle.lin_rows.specs.Derived.{Derived}
+use Rattle.lin_rows.specs.Steps.{all_rows, IsFalse}
+
+-- the rows handed in, and then those of the steps
+abbrev pub numbered : List Row → List ComboStep → List (Option Row)
+numbered rows steps = all_rows (map Some rows) steps
+
+-- the number is that of a row with the property
+abbrev pub HasRow : List Row → List ComboStep → (Row → Type 0) → ℕ → Type 0
+HasRow rows steps P i = (r : Row) × (slice_get (numbered rows steps) i ≡ Some (Some r)) × P r
+
+-- so is each of these
+abbrev pub HaveRows : List Row → List ComboStep → (Row → Type 0) → List ℕ → Type 0
+HaveRows rows steps P is = All (HasRow rows steps P) is
+
+-- a row derived before `v` that may be met
+abbrev pub IsLive : List Row → ℕ → Row → Type 0
+IsLive rows v r = Derived rows v r × ¬ (IsFalse r)
+
+-- one that has `v` with a positive coefficient, and so bounds it from above
+abbrev pub BoundsAbove : List Row → ℕ → Row → Type 0
+BoundsAbove rows v r = Derived rows v r × (pos 0 <ℤ coef_at r.coefs v)
+
+-- one that bounds it from below
+abbrev pub BoundsBelow : List Row → ℕ → Row → Type 0
+BoundsBelow rows v r = Derived rows v r × (coef_at r.coefs v <ℤ pos 0)
+
+-- the row is the sum of those of two numbers that cancels `v`
+abbrev pub IsSumOf : List Row → List ComboStep → ℕ → ℕ → ℕ → Row → Type 0
+IsSumOf rows steps v i j r = HasRow rows steps (λ a. HasRow rows steps (λ b. IsElimination v a b r) j) i
+
+-- a sum that cancels `v` in the rows of the two is among the next ones
+abbrev pub IsCovered : List Row → List ComboStep → ℕ → List ℕ → ℕ → ℕ → Type 0
+IsCovered rows steps v next i j = (n : ℕ) × Contains next n × HasRow rows steps (IsSumOf rows steps v i j) n
+
+-- so is one for each two of these
+abbrev pub AreCovered : List Row → List ComboStep → ℕ → List ℕ → List ℕ → List ℕ → Type 0
+AreCovered rows steps v next above below = All (λ i. All (IsCovered rows steps v next i) below) above
+
+-- the one list begins with the other
+abbrev pub IsPrefix : {X : Type 0} → List X → List X → Type 0
+IsPrefix {X} xs ys = (zs : List X) × (ys ≡ xs ++ zs)

@@ -1,0 +1,19 @@
+//! Elimination over rows: sums of rows that show that they aren't met together, or a point that meets
+//! them all.
+#![tactic(auto)]
+
+mod elimination;
+mod given;
+mod levels;
+mod multipliers;
+mod numbers;
+mod parts;
+mod stop;
+mod sums;
+mod variables;
+
+pub use elimination::{Eliminated, eliminate_all};
+pub use levels::Level;
+
+#[cfg(test)]
+mod tests;
