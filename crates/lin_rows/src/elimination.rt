@@ -11,7 +11,7 @@ use crate::row::Row;
 use std::alloc::Global;
 
 /// The greatest common divisor.
-fn gcd(a: u128, b: u128) -> u128
+pub fn gcd(a: u128, b: u128) -> u128
     ensures { IsGcd a b result }
 {
     let mut x = a;
@@ -26,7 +26,7 @@ fn gcd(a: u128, b: u128) -> u128
 
 /// The lowest multipliers that cancel a positive and a negative coefficient, where both are within
 /// 128 bits.
-fn lowest(x: i128, y: i128) -> Option<(i128, i128)>
+pub fn lowest_multipliers(x: i128, y: i128) -> Option<(i128, i128)>
     requires positive { pos 0 <ℤ x }
     requires negative { y <ℤ pos 0 }
     ensures some { IfSome result (λ by. IsLowest x y by.0 by.1) }
@@ -48,7 +48,7 @@ pub fn eliminate(alloc: Global, a: &Row, b: &Row, var: u32) -> Result<Row, RowFa
     ensures fits { OnOk result (FitsElimination var a.now b.now) }
     ensures wide { IfErr result (λ e. e ≡ Wide → IsWideElimination var a.now b.now) }
 {
-    let Some((by_left, by_right)) = lowest(a.coefs.coef(var), b.coefs.coef(var)) else {
+    let Some((by_left, by_right)) = lowest_multipliers(a.coefs.coef(var), b.coefs.coef(var)) else {
         return Err(RowFault::Wide);
     };
     combine(alloc, by_left, a, by_right, b)

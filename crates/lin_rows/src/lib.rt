@@ -13,7 +13,7 @@ mod terms;
 mod wide;
 
 pub use combination::combine;
-pub use elimination::eliminate;
+pub use elimination::{eliminate, gcd, lowest_multipliers};
 pub use fault::RowFault;
 pub use laws::{
     combinations_refute, derived_rows_are_met, eliminations_cancel, reduced_units_are_least,

@@ -5,7 +5,6 @@
 mod elimination;
 mod given;
 mod levels;
-mod multipliers;
 mod numbers;
 mod parts;
 mod stop;

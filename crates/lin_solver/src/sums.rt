@@ -9,10 +9,9 @@ ghost use Rattle.lin_rows.specs.declared.fault.RowFault.TheVariants.{Wide};
 ghost use Rattle.lin_solver.specs.Numbers.{numbered, HasRow, HaveRows, IsLive, BoundsAbove, BoundsBelow, IsSumOf, IsCovered, AreCovered, IsPrefix};
 ghost use Rattle.lin_solver.specs.Stops.{IsStop};
 
-use crate::multipliers::lowest;
 use crate::numbers::{next_number, row_at};
 use crate::stop::Stop;
-use lin_rows::{ComboStep, Row, RowFault, WidePoint, combine};
+use lin_rows::{ComboStep, Row, RowFault, WidePoint, combine, lowest_multipliers};
 use sqlite_items::Items;
 use std::alloc::Global;
 
@@ -32,7 +31,7 @@ fn sum_of(alloc: Global, a: &Row, b: &Row, var: u32) -> Result<Sum, RowFault>
     ensures fits { IfOk result (λ s. SumFits s.by_left s.by_right a.now b.now) }
     ensures wide { IfErr result (λ e. e ≡ Wide → IsWideElimination var a.now b.now) }
 {
-    let Some((by_left, by_right)) = lowest(a.coefs.coef(var), b.coefs.coef(var)) else {
+    let Some((by_left, by_right)) = lowest_multipliers(a.coefs.coef(var), b.coefs.coef(var)) else {
         return Err(RowFault::Wide);
     };
     let row = combine(alloc, by_left, a, by_right, b)?;

@@ -5,7 +5,7 @@ use Rattle.std.proofs.Common.{rules, arith, sym, ◌∙◌}
 use Rattle.std.proofs.lemmas.Int.{to_z-of_z, ints}
 use Rattle.lin_rows.specs.Lowest.{IsLowest}
 use Rattle.lin_rows.specs.LowestLaws.{gcd_positive, lowest_of_gcd}
-use Rattle.lin_solver.proofs.multipliers.lowest.Goals as goal
+use Rattle.lin_rows.proofs.elimination.lowest_multipliers.Goals as goal
 
 -- a divisor of the sizes isn't 0
 positive_divisor : (x : ℤ) (m n g : ℕ) → pos 0 <ℤ x → m ≡ unsigned_abs x → IsGcd m n g → 0 < g
