@@ -19,7 +19,7 @@ use Rattle.py_syntax.specs.declared.Gives.TheVariants.{Result, Made, Nothing}
 use Rattle.py_syntax.specs.declared.Item.{Item}
 use Rattle.py_syntax.specs.declared.Item.TheVariants as item
 use Rattle.py_syntax.specs.ExprItems.{expr_items}
-use Rattle.py_syntax.specs.StmtItems.{block_items}
+use Rattle.py_syntax.specs.StmtItems.{block_items, values_wanted}
 use Rattle.py_syntax.specs.Classes.{base_of, lookup, is_subclass}
 use Rattle.machine_model.specs.declared.state.Object.{Object}
 use Rattle.machine_model.specs.declared.state.Frame.{Frame}
@@ -34,7 +34,7 @@ use Rattle.machine_model.specs.Moments.{at_atom, scene_of, atoms_hold, owns_any,
 use Rattle.machine_model.specs.Frames.{After, operand, pop_value, pop_truth, pop_number, pop_receiver, pop_arguments, local_at, stored, goes_on, stays, stays_with, must_terminate, drop_turns}
 use Rattle.machine_model.specs.Calls.{method_at, enter, go_out, leave, throw}
 use Rattle.machine_model.specs.Sharing.{acquired, released, without_cap, lock_made, thread_object, started, joined}
-use Rattle.machine_model.specs.Printing.{values_wanted, printed}
+use Rattle.machine_model.specs.Printing.{printed}
 
 abbrev pub pushed : Value → Frame → Frame
 pushed v f = record f { stack = v ∷ f.stack }

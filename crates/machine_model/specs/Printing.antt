@@ -1,5 +1,5 @@
 -- What `print` writes (Standard Library reference, `print`): the texts of its arguments with one space between. A whole number is decimal, and a truth value is `True` or `False`.
-use Rattle.std.specs.Prelude.{ℕ, suc, List, [], ◌∷◌, ◌++◌, codes, if◌then◌else◌}
+use Rattle.std.specs.Prelude.{ℕ, List, [], ◌∷◌, ◌++◌, codes, if◌then◌else◌}
 use Rattle.std.specs.Fmt.{signed_decimal}
 use Rattle.py_syntax.specs.declared.Value.{Value}
 use Rattle.py_syntax.specs.declared.Value.TheVariants.{Num, Truth, Nil, Ref}
@@ -12,12 +12,6 @@ text_of (Num z) = signed_decimal z
 text_of (Truth b) = if b then codes "True" else codes "False"
 text_of Nil = []
 text_of (Ref r) = []
-
--- how many values the arguments ask for
-abbrev pub values_wanted : List PrintArg → ℕ
-values_wanted [] = 0
-values_wanted (arg.Value e ∷ args) = suc (values_wanted args)
-values_wanted (arg.Literal text ∷ args) = values_wanted args
 
 -- the texts of the arguments, whose values are these
 abbrev pub texts_of : List PrintArg → List Value → List (List ℕ)

@@ -3,3 +3,7 @@ pub mod StmtItems
 pub mod Control
 pub mod Classes
 pub mod WaysOut
+pub mod Findings
+pub mod SmallForms
+pub mod SmallLocal
+pub mod ItemLaws

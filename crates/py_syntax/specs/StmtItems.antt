@@ -18,6 +18,12 @@ printed_items [] rest = rest
 printed_items (Value e ∷ args) rest = expr_items e (printed_items args rest)
 printed_items (Literal t ∷ args) rest = printed_items args rest
 
+-- how many values the arguments of `print` ask for
+abbrev pub values_wanted : List PrintArg → ℕ
+values_wanted [] = 0
+values_wanted (Value e ∷ args) = suc (values_wanted args)
+values_wanted (Literal t ∷ args) = values_wanted args
+
 abbrev pub returned_items : {V : Type 0} → Option Expr → Before V
 returned_items None rest = item.Return false ∷ rest
 returned_items (Some e) rest = expr_items e (item.Return true ∷ rest)

@@ -1,12 +1,12 @@
--- The items of an expression, by those of its parts.
+-- The items of an expression are those of its form over the items of its parts: one equation for each expression.
 use Rattle.std.proofs.Common.{◌≡◌, ℕ, suc, List, [], ◌∷◌, map, length, refl, ap, sym, ◌∙◌}
 use Rattle.std.proofs.lemmas.List.{map-id}
 use Rattle.py_base.specs.declared.Place.{Place}
-use Rattle.py_syntax.specs.declared.Expr.{Expr, Expr-F, out-Expr, para-roll-Expr, roll-out-Expr}
-use Rattle.py_syntax.specs.declared.ExprForm.{ExprForm, ExprForm-F, map-ExprForm, out-ExprForm, para-ExprForm, para-roll-ExprForm, roll-out-ExprForm}
-use Rattle.py_syntax.specs.declared.Instance.{Instance, Instance-F, para-Instance}
-use Rattle.py_syntax.specs.declared.Item.{Item}
-use Rattle.py_syntax.specs.declared.Item.TheVariants as item
+use Rattle.py_syntax.specs.declared.expr.Expr.{Expr, Expr-F, out-Expr, para-roll-Expr, roll-out-Expr}
+use Rattle.py_syntax.specs.declared.expr.ExprForm.{ExprForm, ExprForm-F, map-ExprForm, out-ExprForm, para-ExprForm, para-roll-ExprForm, roll-out-ExprForm}
+use Rattle.py_syntax.specs.declared.expr.Instance.{Instance, Instance-F, para-Instance}
+use Rattle.py_syntax.specs.declared.item.Item.{Item}
+use Rattle.py_syntax.specs.declared.item.Item.TheVariants as item
 use Rattle.py_syntax.specs.ExprItems.{Before, static_class, in_turn, chain_items, form_items, expr_items}
 
 firsts : {V : Type 0} (g : Expr → Before V) (es : List Expr) → map (λ (e : Expr × Before V). e.0) (map (λ y. (y, g y)) es) ≡ es

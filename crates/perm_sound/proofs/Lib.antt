@@ -1,0 +1,7 @@
+mod SmallItems
+mod OneUnit
+mod Pops
+mod Keeps
+mod Items
+mod Steps
+mod Runs
