@@ -3,3 +3,4 @@ mod Maps
 mod Eleven
 mod ElevenSteps
 mod ReplacedSteps
+mod Trees

@@ -5,3 +5,8 @@ pub mod Answered
 pub mod Told
 pub mod Replied
 pub mod OneAnswer
+pub mod Parts
+pub mod LocalRuns
+pub mod SmallShapes
+pub mod Faults
+pub mod Verdicts

@@ -34,25 +34,25 @@ folded n (b ∷ bytes) digits =
     let same : (n + 1) * 10 * 10 ^ length bytes ≡ (n + 1) * 10 ^ suc (length bytes) = mul_assoc (n + 1) 10 (10 ^ length bytes) ∙ ap (λ k. (n + 1) * k) (sym (pow-succ' 10 (length bytes))) in
     subst (λ k. fold (λ k d. k * 10 + (d - 48)) next bytes < k) same (omega arith)
 
-out-Num : (z : ℤ) → out-ExprForm (Num z) ≡ ExprForm-F.Num z
+pub out-Num : (z : ℤ) → out-ExprForm (Num z) ≡ ExprForm-F.Num z
 out-Num z = search the_lemmas
 
-out-Local : (i : ℕ) → out-ExprForm (Local i) ≡ ExprForm-F.Local i
+pub out-Local : (i : ℕ) → out-ExprForm (Local i) ≡ ExprForm-F.Local i
 out-Local i = search the_lemmas
 
-out-Bin : (key : ℕ) (a b : Expr) → out-ExprForm (Bin key a b) ≡ ExprForm-F.Bin key a b
+pub out-Bin : (key : ℕ) (a b : Expr) → out-ExprForm (Bin key a b) ≡ ExprForm-F.Bin key a b
 out-Bin key a b = search the_lemmas
 
-out-Pass : out-StmtForm Pass ≡ StmtForm-F.Pass
+pub out-Pass : out-StmtForm Pass ≡ StmtForm-F.Pass
 out-Pass = search stmt_lemmas
 
-out-Store : (i : ℕ) (e : Expr) → out-StmtForm (Store i e) ≡ StmtForm-F.Store i e
+pub out-Store : (i : ℕ) (e : Expr) → out-StmtForm (Store i e) ≡ StmtForm-F.Store i e
 out-Store i e = search stmt_lemmas
 
-out-Check : (e : Expr) → out-StmtForm (Check e) ≡ StmtForm-F.Check e
+pub out-Check : (e : Expr) → out-StmtForm (Check e) ≡ StmtForm-F.Check e
 out-Check e = search stmt_lemmas
 
-out-Print : (args : List PrintArg) → out-StmtForm (Print args) ≡ StmtForm-F.Print args
+pub out-Print : (args : List PrintArg) → out-StmtForm (Print args) ≡ StmtForm-F.Print args
 out-Print args = search stmt_lemmas
 
 -- a number of at most nine digits is short

@@ -4,4 +4,5 @@ pub mod Texts
 pub mod Statuses
 pub mod Replies
 pub mod Commands
+pub mod Reports
 pub mod Answers

@@ -1,7 +1,8 @@
 -- The asserts of a small function: its statements are read from the first to the last, in whole numbers.
-use Rattle.std.specs.Prelude.{ℕ, Bool, false, not, List, [], ◌∷◌, length, replicate, slice_get, slice_index_or, slice_set, Option, Some, None, option_and_then, ◌==◌, if◌then◌else◌, ℤ, pos, ◌+ℤ◌, ◌-ℤ◌}
+use Rattle.std.specs.Prelude.{◌≡◌, ◌++◌, codes, ℕ, Bool, false, not, List, [], ◌∷◌, length, replicate, slice_get, slice_index_or, slice_set, Option, Some, None, option_and_then, ◌==◌, if◌then◌else◌, ℤ, pos, ◌+ℤ◌, ◌-ℤ◌}
 use Rattle.std.specs.Ordering.{int_eq}
 use Rattle.py_base.specs.declared.Place.{Place}
+use Rattle.py_base.specs.declared.Kind.TheVariants.{Assert}
 use Rattle.py_syntax.specs.declared.Expr.{Expr, Expr-F, out-Expr, fold-Expr}
 use Rattle.py_syntax.specs.declared.ExprForm.{ExprForm, ExprForm-F, out-ExprForm}
 use Rattle.py_syntax.specs.declared.Instance.{Instance, Instance-F}
@@ -9,6 +10,8 @@ use Rattle.py_syntax.specs.declared.Stmt.{Stmt, out-Stmt}
 use Rattle.py_syntax.specs.declared.StmtForm.{StmtForm, StmtForm-F, out-StmtForm}
 use Rattle.py_syntax.specs.declared.Method.{Method}
 use Rattle.py_syntax.specs.declared.Module.{Module}
+use Rattle.nagini_cli.specs.Texts.{accepted_line, fault_line, not_proved_line}
+use Rattle.nagini_cli.specs.declared.status.TheConstants.{ACCEPTED, NOT_PROVED}
 
 -- what an expression gives where the locals have given values
 abbrev pub Meaning : Type 0
@@ -75,3 +78,12 @@ first_false_of method = first_false_in method.body (replicate (length method.loc
 -- the place of the first false assert of the module's `main`
 abbrev pub first_false : Module → Option Place
 first_false m = option_and_then first_false_of (slice_get m.methods m.main)
+
+-- the report of one false assert of `main`
+abbrev pub false_assert_text : Place → List ℕ
+false_assert_text place = fault_line place Assert (codes "main") ++ not_proved_line 1
+
+-- what is said of a small module whose first false assert is this
+abbrev pub IsVerdict : Option Place → ℕ → List ℕ → Type 0
+IsVerdict None status text = (status ≡ ACCEPTED) × (text ≡ accepted_line 1)
+IsVerdict (Some place) status text = (status ≡ NOT_PROVED) × (text ≡ false_assert_text place)

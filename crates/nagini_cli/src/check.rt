@@ -5,7 +5,8 @@ ghost use Rattle.py_base.specs.declared.Place.{Place};
 ghost use Rattle.py_syntax.specs.declared.Module.{Module};
 ghost use Rattle.nagini_cli.specs.SmallBody.{IsSmallModule};
 ghost use Rattle.nagini_cli.specs.SmallRun as small_run;
-ghost use Rattle.nagini_cli.specs.Answers.{IsAnswer, IsVerdict, ChecksFile, report_text};
+ghost use Rattle.nagini_cli.specs.Answers.{IsAnswer, ChecksFile};
+ghost use Rattle.nagini_cli.specs.SmallRun.{IsVerdict, false_assert_text};
 ghost use Rattle.nagini_cli.specs.Replies.{Says, text_of};
 ghost use Rattle.nagini_cli.specs.Texts as texts;
 
@@ -96,7 +97,7 @@ fn verdict(alloc: Global, small_module: &Module) -> Result<Reply, OutOfMemory>
 
 // The report of one false assert of `main`.
 fn report(alloc: Global, place: Place) -> Result<Reply, OutOfMemory>
-    ensures { IfOk result (λ r. Says r NOT_PROVED (report_text place)) }
+    ensures { IfOk result (λ r. Says r NOT_PROVED (false_assert_text place)) }
 {
     let fault = fault_line(alloc, place, Kind::Assert, "main")?;
     let count = not_proved_line(alloc, 1)?;

@@ -1,17 +1,19 @@
 // The top call: words to a command, and what it answers.
-ghost use Rattle.std.specs.Prelude.{◌≡◌, ◌≢◌, ◌≤◌, ◌<◌, ◌+◌, ◌⊎◌, ◌↔◌, ℕ, List, false, map, length, string_bytes, codes, IfOk, Some, None, option_copied};
+ghost use Rattle.std.specs.Prelude.{◌≡◌, ◌≢◌, ◌≤◌, ◌<◌, ◌+◌, ◌⊎◌, ◌↔◌, ℕ, List, ◌∷◌, false, map, length, string_bytes, codes, IfOk, Some, None, option_copied};
 ghost use Rattle.std.specs.Option.{option_map};
 ghost use Rattle.std.specs.Io.KnownBytes.{Appends};
 ghost use Rattle.io_edge.specs.Outside.{Held, held_at, Rose, AppendsPart};
-ghost use Rattle.py_base.specs.declared.Place.{Place};
+ghost use Rattle.machine_model.specs.Safe.{Safe};
 ghost use Rattle.py_syntax.specs.declared.Module.{Module};
+ghost use Rattle.py_syntax.specs.Findings.{Finding};
+ghost use Rattle.py_syntax.specs.SmallLocal.{IsLocalFault, HasNoLocalFault};
 ghost use Rattle.py_front.specs.TextLines.{lines_of, AreSkipped};
 ghost use Rattle.py_front.specs.SmallText.{Spells, StopsAt, line_start, end_of};
-ghost use Rattle.nagini_cli.specs.Answers.{Allowed, AsksFor, IsAnswer, report_text};
+ghost use Rattle.nagini_cli.specs.Answers.{Allowed, AsksFor, IsAnswer};
 ghost use Rattle.nagini_cli.specs.Commands as commands;
 ghost use Rattle.nagini_cli.specs.Commands.{Check, command_of};
 ghost use Rattle.nagini_cli.specs.Replies.{Says};
-ghost use Rattle.nagini_cli.specs.SmallRun.{first_false};
+ghost use Rattle.nagini_cli.specs.Reports.{AreLocalFaults, report_text};
 ghost use Rattle.nagini_cli.specs.Statuses.{IsAnswered, IsCutShort, IsQuiet};
 ghost use Rattle.nagini_cli.specs.Texts as texts;
 
@@ -20,6 +22,7 @@ use crate::reply::{Reply, finish};
 use crate::status::{ACCEPTED, LIMIT, NOT_PROVED, READ_FAULT, REFUSED, USAGE, WRITE_FAULT};
 use crate::texts::usage_line;
 use io_edge::{Files, Sink};
+use perm_sound::no_local_fault_is_safe;
 use py_base::OutOfMemory;
 use std::alloc::Global;
 
@@ -83,25 +86,29 @@ pub fn nagini<F: Files, O: Sink>(alloc: Global, words: &[String], files: &mut F,
         (result ≡ REFUSED)
         × Appends (O.written out.old) (O.written out.new)
         (texts.refusal_line (codes "NotBuilt") (line_start (1 + i))) }
+    // An accepted file's module has no local fault, and each of its runs is safe. A report has exactly
+    // the local faults, in order.
     ensures accepted { (bytes : List ℕ) →
         AsksFor (map string_bytes words.now) (F.held files.old) bytes →
-        result ≡ ACCEPTED → (m : Module) × Spells bytes m × (first_false m ≡ None) }
+        result ≡ ACCEPTED → (m : Module)
+        × Spells bytes m × HasNoLocalFault m × ((list : List ℕ) → Safe m list) }
     ensures accepts { (bytes : List ℕ) (m : Module) →
         AsksFor (map string_bytes words.now) (F.held files.old) bytes →
-        IsAnswered result → length bytes ≤ FILE_LIMIT → Spells bytes m → first_false m ≡ None →
+        IsAnswered result → length bytes ≤ FILE_LIMIT → Spells bytes m → HasNoLocalFault m →
         (result ≡ ACCEPTED)
-        × Appends (O.written out.old) (O.written out.new) (texts.accepted_line 1) }
+        × Appends (O.written out.old) (O.written out.new)
+        (texts.accepted_line (length m.methods)) }
     ensures not_proved { (bytes : List ℕ) →
         AsksFor (map string_bytes words.now) (F.held files.old) bytes →
-        result ≡ NOT_PROVED → (m : Module) × (place : Place)
-        × Spells bytes m × (first_false m ≡ Some place)
-        × Appends (O.written out.old) (O.written out.new) (report_text place) }
-    ensures reports { (bytes : List ℕ) (m : Module) (place : Place) →
+        result ≡ NOT_PROVED → (m : Module) × (f : Finding) × (faults : List Finding)
+        × Spells bytes m × AreLocalFaults m (f ∷ faults)
+        × Appends (O.written out.old) (O.written out.new) (report_text m (f ∷ faults)) }
+    ensures reports { (bytes : List ℕ) (m : Module) (f : Finding) →
         AsksFor (map string_bytes words.now) (F.held files.old) bytes →
-        IsAnswered result → length bytes ≤ FILE_LIMIT →
-        Spells bytes m → first_false m ≡ Some place →
+        IsAnswered result → length bytes ≤ FILE_LIMIT → Spells bytes m → IsLocalFault m f →
         (result ≡ NOT_PROVED)
-        × Appends (O.written out.old) (O.written out.new) (report_text place) }
+        × ((faults : List Finding) × AreLocalFaults m faults
+        × Appends (O.written out.old) (O.written out.new) (report_text m faults)) }
 
     // A write that fails is the last one, and gives its own status.
     ensures write_fault { result ≡ WRITE_FAULT → Rose (O.faults out.old) (O.faults out.new) }
@@ -113,7 +120,10 @@ pub fn nagini<F: Files, O: Sink>(alloc: Global, words: &[String], files: &mut F,
     ensures held { F.held files.new ≡ F.held files.old }
 {
     match checked_file(words) {
-        Some(file) => finish(check(alloc, file, files), out),
+        Some(file) => {
+            no_local_fault_is_safe();
+            finish(check(alloc, file, files), out)
+        }
         None => finish(usage(alloc), out),
     }
 }

@@ -76,6 +76,3 @@ expr_items_is {V} e rest =
     ap (λ x. expr_items x rest) (sym (roll-out-Expr e))
     ∙ ap (λ k. k rest) (para-roll-Expr (Place → Before V) (Before V) (Unit {0}) of_form of_expr of_instance (out-Expr e))
     ∙ by_form_is e.form e.place rest
-
-pub trees : (es : List Expr) → map (λ (e : Expr). e) es ≡ es
-trees es = map-id es

@@ -4,9 +4,9 @@ use Rattle.std.specs.Prelude.{codes}
 use Rattle.py_base.specs.declared.Place.{Place}
 use Rattle.py_front.specs.declared.FrontFault.{FrontFault}
 use Rattle.py_front.specs.declared.FrontFault.TheVariants.{NotBuilt}
-use Rattle.nagini_cli.specs.Answers.{IsAnswer, IsVerdict}
+use Rattle.nagini_cli.specs.Answers.{IsAnswer}
 use Rattle.nagini_cli.specs.Replies.{Says, text_of}
-use Rattle.nagini_cli.specs.SmallRun.{first_false}
+use Rattle.nagini_cli.specs.SmallRun.{first_false, IsVerdict}
 use Rattle.nagini_cli.specs.Texts.{refusal_line}
 use Rattle.nagini_cli.specs.declared.status.TheConstants.{REFUSED}
 use Rattle.nagini_cli.proofs.Small.{IsSmallModule-spelled}

@@ -1,7 +1,10 @@
 use Rattle.std.proofs.Common.{sym, refl, arith}
 use Rattle.std.proofs.lemmas.Result.{IfOk-weaker}
 use Rattle.nagini_cli.specs.Answers.{no_main, not_built, accepted, not_proved}
-use Rattle.nagini_cli.proofs.Replied.{whole_of, part_of, usage_part_of, read_fault_of, row_of}
+use Rattle.std.specs.Io.KnownBytes.{Appends}
+use Rattle.nagini_cli.proofs.Faults.{first_fault}
+use Rattle.nagini_cli.proofs.Verdicts.{accepted_of, not_proved_of}
+use Rattle.nagini_cli.proofs.Replied.{whole_of, part_of, told_of, usage_part_of, read_fault_of, row_of}
 use Rattle.nagini_cli.proofs.command.nagini.Goals as goal
 
 pub returns-in-Some-clause-whole : goal.returns-in-Some-clause-whole
@@ -29,9 +32,21 @@ pub returns-in-Some-clause-accepts : goal.returns-in-Some-clause-accepts
 returns-in-Some-clause-accepts g c = λ bytes m asks is_answered within spelled none.
     row_of c.check.result _ _ c.in-Some.file.now _ _ _ (sym c.in-Some.ensures) c.check.ensures.told c.finish.ensures.whole bytes _ _ asks is_answered (accepted within m spelled none refl refl)
 
+pub returns-in-Some-clause-accepted : goal.returns-in-Some-clause-accepted
+returns-in-Some-clause-accepted g c = λ bytes asks is.
+    let answer = told_of c.check.result _ _ c.in-Some.file.now bytes _ _ _ (sym c.in-Some.ensures) c.check.ensures.told (c.finish.ensures.whole (λ e. omega (arith, is, e), λ e. omega (arith, is, e))) asks (λ e. omega (arith, is, e)) in
+    accepted_of c.no_local_fault_is_safe.ensures bytes _ _ is answer.1.answers
+
+pub returns-in-Some-clause-not_proved : goal.returns-in-Some-clause-not_proved
+returns-in-Some-clause-not_proved g c = λ bytes asks is.
+    let answer = told_of c.check.result _ _ c.in-Some.file.now bytes _ _ _ (sym c.in-Some.ensures) c.check.ensures.told (c.finish.ensures.whole (λ e. omega (arith, is, e), λ e. omega (arith, is, e))) asks (λ e. omega (arith, is, e)) in
+    not_proved_of (λ text. Appends _ _ text) bytes _ _ is answer.1.answers answer.2
+
 pub returns-in-Some-clause-reports : goal.returns-in-Some-clause-reports
-returns-in-Some-clause-reports g c = λ bytes m place asks is_answered within spelled some.
-    row_of c.check.result _ _ c.in-Some.file.now _ _ _ (sym c.in-Some.ensures) c.check.ensures.told c.finish.ensures.whole bytes _ _ asks is_answered (not_proved within m place spelled some refl refl)
+returns-in-Some-clause-reports g c = λ bytes m f asks is_answered within spelled fault.
+    let place = first_fault bytes m f spelled fault in
+    let row = row_of c.check.result _ _ c.in-Some.file.now _ _ _ (sym c.in-Some.ensures) c.check.ensures.told c.finish.ensures.whole bytes _ _ asks is_answered (not_proved within m _ _ spelled place refl refl) in
+    (row.0, (_, place, row.1))
 
 pub returns-in-None-clause-part : goal.returns-in-None-clause-part
 returns-in-None-clause-part g c = λ cut.
