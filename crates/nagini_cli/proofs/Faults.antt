@@ -22,7 +22,7 @@ use Rattle.nagini_cli.proofs.SmallShapes.{shape_is_small}
 use Rattle.nagini_cli.proofs.LocalRuns.{ends_at, local_is}
 
 -- a false assert of `main`
-pub abbrev finding_at : Place → Finding
+abbrev pub finding_at : Place → Finding
 finding_at p = record { place = p; kind = Assert; method = 0 }
 
 first_is : (m : Module) (small : IsSmallModule m) → first_false m ≡ first_false_of small.method

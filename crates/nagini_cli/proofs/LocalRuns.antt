@@ -1,5 +1,6 @@
 -- A local run of a small function in any unit ends as the first false assert says.
-use Rattle.std.proofs.Common.{◌≡◌, ◌⊎◌, ℕ, zero, suc, ◌+◌, ◌≤◌, ◌<◌, max, List, [], ◌∷◌, map, length, replicate, refl, sym, ap, subst, ◌∙◌, inl, inr, ⊤, arith}
+use Rattle.std.proofs.Common.{◌≡◌, ◌⊎◌, ℕ, zero, suc, ◌+◌, ◌≤◌, ◌<◌, max, List, [], ◌∷◌, map, length, replicate, refl, sym, ap, subst, ◌∙◌, inl, inr, arith}
+use Rattle.std.specs.Bool.{⊤}
 use Rattle.std.specs.Prelude.{ℤ, pos, ◌+ℤ◌, ◌-ℤ◌, ◌*ℤ◌, ◌≤ℤ◌, Bool, true, false, not, ◌==◌, ◌≢◌, Option, Some, None, slice_get, slice_set, slice_index_or, if◌then◌else◌}
 use Rattle.std.specs.Option.{option_and_then}
 use Rattle.std.specs.Ordering.{int_eq}
@@ -36,11 +37,11 @@ set_same (x ∷ xs) zero y h = refl
 set_same (x ∷ xs) (suc i) y h = set_same xs i y (omega arith)
 
 set_other : {X : Type 0} (xs : List X) (i j : ℕ) (y : X) → j ≢ i → slice_get (slice_set xs i y) j ≡ slice_get xs j
-set_other [] i j y no = refl
-set_other (x ∷ xs) zero zero y no = absurd (no refl)
-set_other (x ∷ xs) zero (suc j) y no = refl
-set_other (x ∷ xs) (suc i) zero y no = refl
-set_other (x ∷ xs) (suc i) (suc j) y no = set_other xs i j y (λ e. no (ap (λ (n : ℕ). suc n) e))
+set_other [] i j y apart = refl
+set_other (x ∷ xs) zero zero y apart = absurd (apart refl)
+set_other (x ∷ xs) zero (suc j) y apart = refl
+set_other (x ∷ xs) (suc i) zero y apart = refl
+set_other (x ∷ xs) (suc i) (suc j) y apart = set_other xs i j y (λ e. apart (ap (λ (n : ℕ). suc n) e))
 
 -- a number in parts of a unit
 parts : ℤ → ℤ → Value
@@ -86,7 +87,7 @@ sum q k locals store e rest st holds is =
     ∙ ap (λ (f : List ℤ → ℤ). local_from q rest (parts q (f locals) ∷ st) store) (sym (value_of-out e))
 
 -- how a local run ends by the first false assert
-pub abbrev ends_at : Option Place → Outcome
+abbrev pub ends_at : Option Place → Outcome
 ends_at None = Ended
 ends_at (Some p) = Fault p Assert
 
@@ -122,8 +123,8 @@ stored q k i v locals store holds known there = record {
       subst (λ (n : ℕ). slice_get (slice_set store i (Some (parts q v))) n ≡ Some (Some (parts q (local_value n (slice_set locals i v))))) is
       (set_same store i (Some (parts q v)) (subst (λ n. i < n) (sym holds.as_long) there) ∙ ap (λ z. Some (Some (parts q z))) (sym (get_or-set_same locals i v (pos 0) there)))
     by_place j below false e =
-      let no : j ≢ i = eqb-false j i e in
-      set_other store i j (Some (parts q v)) no ∙ holds.kept j (omega arith) ∙ ap (λ z. Some (Some (parts q z))) (sym (get_or-set_other locals i j v (pos 0) no))
+      let apart : j ≢ i = eqb-false j i e in
+      set_other store i j (Some (parts q v)) apart ∙ holds.kept j (omega arith) ∙ ap (λ z. Some (Some (parts q z))) (sym (get_or-set_other locals i j v (pos 0) apart))
 
 after_length : (form : StmtForm-F StmtForm Stmt) (locals : List ℤ) → length (after_form form locals) ≡ length locals
 after_length (StmtForm-F.Store i e) locals = length-set locals i (value_of e locals)

@@ -11,7 +11,7 @@ use Rattle.py_syntax.specs.declared.Value.TheVariants.{Truth}
 use Rattle.py_syntax.specs.SmallLocal.{compared}
 
 -- what a comparison gives by the answers of its tests
-answer : Bool → Bool → Bool → Bool → Option Value
+abbrev answer : Bool → Bool → Bool → Bool → Option Value
 answer a b c d = if a && b then Some (Truth true) else (if c && d then None else Some (Truth false))
 
 -- numbers a unit apart are not the same
@@ -55,8 +55,8 @@ pub compared_is : (q x y : ℤ) → pos 1 ≤ℤ q → compared q (x *ℤ q) (y 
 compared_is q x y unit = by (int_lt x y) (int_lt y x) refl refl
   where
     differ : (b : Bool) → int_eq x y ≡ b → (x ≡ y → ⊥) → Some (Truth false) ≡ Some (Truth (int_eq x y))
-    differ true e no = absurd (no ((Decides-int_eq x y).0 e))
-    differ false e no = ap (λ b. Some (Truth b)) (sym e)
+    differ true e apart = absurd (apart ((Decides-int_eq x y).0 e))
+    differ false e apart = ap (λ b. Some (Truth b)) (sym e)
 
     same : x ≡ y → compared q (x *ℤ q) (y *ℤ q) ≡ Some (Truth (int_eq x y))
     same e = ap (λ z. compared q (x *ℤ q) (z *ℤ q)) (sym e) ∙ level q (x *ℤ q) ∙ ap (λ b. Some (Truth b)) (sym ((Decides-int_eq x y).1 e))

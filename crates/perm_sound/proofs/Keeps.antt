@@ -1,9 +1,10 @@
 -- The relation between a run of a small module and the local run of its `main` in the unit 1, which every item keeps.
-use Rattle.std.proofs.Common.{◌≡◌, ℕ, List, [], ◌∷◌, refl, ⊤}
+use Rattle.std.proofs.Common.{◌≡◌, ℕ, List, [], ◌∷◌}
+use Rattle.std.specs.Bool.{⊤}
 use Rattle.std.specs.Prelude.{pos, Option, Some, None, true, false}
 use Rattle.py_syntax.specs.declared.Value.{Value}
 use Rattle.py_syntax.specs.SmallLocal.{Outcome, Ended, Stopped, Fault, local_from}
-use Rattle.py_syntax.specs.WaysOut.{Ending, Normal}
+use Rattle.py_syntax.specs.WaysOut.{Normal}
 use Rattle.machine_model.specs.declared.Frame.{Frame}
 use Rattle.machine_model.specs.declared.EventForm.TheVariants as event
 use Rattle.machine_model.specs.declared.Halt.TheVariants as halt
@@ -11,7 +12,7 @@ use Rattle.machine_model.specs.Results.{Res, Got, Stops}
 use Rattle.machine_model.specs.Frames.{After}
 use Rattle.perm_sound.proofs.SmallItems.{AreSmall}
 
-pub abbrev IsNoFault : Outcome → Type 0
+abbrev pub IsNoFault : Outcome → Type 0
 IsNoFault Ended = ⊤
 IsNoFault Stopped = ⊤
 IsNoFault (Fault p kind_of) = ⊥
@@ -28,7 +29,7 @@ pub data Fine : After → Type 0 where
   ends : (v : Value) → Fine (record { heap = []; frames = []; ended = true; started = None; event = Some event.Ended; line = None; call = Some (0, Normal v) })
 
 -- an item's result is fine, or the item wasn't done; no test has failed, and no number is too large
-pub abbrev Gives : Res After → Type 0
+abbrev pub Gives : Res After → Type 0
 Gives (Got a) = Fine a
 Gives (Stops (halt.Failed kind_of p)) = ⊥
 Gives (Stops (halt.Wide p)) = ⊥

@@ -10,7 +10,7 @@ pub times_one : (n : ℤ) → n *ℤ pos 1 ≡ n
 times_one n = omega (arith, ints)
 
 -- what a comparison gives by the answers of its tests
-answer : Bool → Bool → Bool → Bool → Option Value
+abbrev answer : Bool → Bool → Bool → Bool → Option Value
 answer a b c d = if a && b then Some (Truth true) else (if c && d then None else Some (Truth false))
 
 pub compared_is : (x y : ℤ) → compared (pos 1) x y ≡ Some (Truth (are_same x y))

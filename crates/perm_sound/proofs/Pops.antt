@@ -1,10 +1,10 @@
 -- Popping so many arguments leaves what stands below them.
-use Rattle.std.proofs.Common.{◌≡◌, ◌⊎◌, ℕ, zero, suc, List, [], ◌∷◌, refl, inl, inr}
-use Rattle.std.specs.Prelude.{Option, Some, None}
+use Rattle.std.proofs.Common.{◌≡◌, ℕ, zero, suc, List, [], ◌∷◌, refl}
+use Rattle.std.specs.Prelude.{Some}
 use Rattle.py_syntax.specs.declared.Value.{Value}
 use Rattle.py_syntax.specs.SmallLocal.{below}
 use Rattle.machine_model.specs.declared.Halt.TheVariants as halt
-use Rattle.machine_model.specs.Results.{Res, Got, Stops}
+use Rattle.machine_model.specs.Results.{Got, Stops}
 use Rattle.machine_model.specs.Frames.{pop_onto}
 
 -- the arguments were there, or not

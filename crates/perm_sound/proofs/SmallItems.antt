@@ -1,6 +1,7 @@
 -- The items of small statements are small, and each of them takes itself away.
-use Rattle.std.proofs.Common.{◌≡◌, ◌⊎◌, ℕ, suc, List, [], ◌∷◌, refl, sym, ap, subst, ◌∙◌, inl, inr, ⊤}
-use Rattle.std.specs.Prelude.{pos, length}
+use Rattle.std.proofs.Common.{◌≡◌, ◌⊎◌, ℕ, List, [], ◌∷◌, refl, sym, subst, inl, inr}
+use Rattle.std.specs.Bool.{⊤}
+use Rattle.std.specs.Prelude.{length}
 use Rattle.py_base.specs.declared.Place.{Place}
 use Rattle.py_syntax.specs.declared.Value.{Value}
 use Rattle.py_syntax.specs.declared.Expr.{Expr}
@@ -14,16 +15,16 @@ use Rattle.py_syntax.specs.declared.Method.{Method}
 use Rattle.py_syntax.specs.declared.Item.{Item}
 use Rattle.py_syntax.specs.declared.Item.TheVariants as item
 use Rattle.py_syntax.specs.ExprItems.{expr_items, form_items}
-use Rattle.py_syntax.specs.StmtItems.{printed_items, stmt_form_items, stmt_items, making_items, method_items}
+use Rattle.py_syntax.specs.StmtItems.{printed_items, stmt_form_items, making_items, method_items}
 use Rattle.py_syntax.specs.ItemLaws.{expr_items_is}
 use Rattle.py_syntax.specs.Control.{opened}
 use Rattle.py_syntax.specs.SmallForms.{IsOperandForm, IsOperand, IsSumForm, IsSum, IsEquationForm, IsEquation, IsPrinted, IsSmallStmtForm, IsSmallBody, IsSmallMethod, assigned_behind}
 
 -- the operators of small expressions
-pub abbrev IsSmallKey : ℕ → Type 0
+abbrev pub IsSmallKey : ℕ → Type 0
 IsSmallKey key = (key ≡ 1) ⊎ ((key ≡ 2) ⊎ (key ≡ 11))
 
-pub abbrev IsSmallItem : Item Value → Type 0
+abbrev pub IsSmallItem : Item Value → Type 0
 IsSmallItem (item.Num n) = ⊤
 IsSmallItem (item.Load i) = ⊤
 IsSmallItem (item.Bin p key) = IsSmallKey key
@@ -34,7 +35,7 @@ IsSmallItem item.Pass = ⊤
 IsSmallItem item.End = ⊤
 IsSmallItem i = ⊥
 
-pub abbrev AreSmall : List (Item Value) → Type 0
+abbrev pub AreSmall : List (Item Value) → Type 0
 AreSmall [] = ⊤
 AreSmall (i ∷ control) = IsSmallItem i × AreSmall control
 
