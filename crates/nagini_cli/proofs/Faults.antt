@@ -1,6 +1,6 @@
 -- The local faults of a small module are the first false assert of its `main`, if there is one.
-use Rattle.std.proofs.Common.{◌≡◌, ◌⊎◌, ℕ, zero, suc, ◌<◌, List, [], ◌∷◌, ◌++◌, length, refl, sym, ap, subst, ◌∙◌, inl, inr, arith}
-use Rattle.std.specs.Prelude.{ℤ, pos, ◌≤ℤ◌, All, Contains, Option, Some, None, slice_get, codes, flat_map}
+use Rattle.std.proofs.Common.{◌≡◌, ℕ, zero, suc, ◌+◌, List, [], ◌∷◌, ◌++◌, length, refl, sym, ap, subst, ◌∙◌, inl, inr, arith}
+use Rattle.std.specs.Prelude.{pos, All, Contains, Option, Some, None, slice_get, codes}
 use Rattle.std.specs.Option.{option_and_then}
 use Rattle.std.proofs.lemmas.Int.{ints}
 use Rattle.std.proofs.lemmas.List.{append-nil}
@@ -12,9 +12,9 @@ use Rattle.py_syntax.specs.declared.Method.{Method}
 use Rattle.py_syntax.specs.declared.Module.{Module}
 use Rattle.py_syntax.specs.Findings.{Finding, IsBefore}
 use Rattle.py_syntax.specs.SmallForms.{IsSmallModule}
-use Rattle.py_syntax.specs.SmallLocal.{Outcome, Ended, Fault, local, IsLocalFault, HasNoLocalFault}
+use Rattle.py_syntax.specs.SmallLocal.{Fault, local, IsLocalFault, HasNoLocalFault}
 use Rattle.py_front.specs.TextLines.{lines_of}
-use Rattle.py_front.specs.SmallText.{SpellsMain, SpellsFrom, Spells}
+use Rattle.py_front.specs.SmallText.{SpellsFrom, Spells}
 use Rattle.nagini_cli.specs.SmallRun.{first_false, first_false_of, false_assert_text}
 use Rattle.nagini_cli.specs.Texts.{fault_line, not_proved_line, accepted_line}
 use Rattle.nagini_cli.specs.Reports.{AreLocalFaults, method_text, finding_line, report_text}
@@ -113,8 +113,8 @@ first_some m small f fs are =
     by_rest : (gs : List Finding) → All (IsBefore f) gs → All (IsLocalFault m) gs → first_false m ≡ Some f.place → f ≡ finding_at f.place → (f ∷ gs) ≡ finding_at f.place ∷ []
     by_rest [] before faults first is = ap (λ (x : Finding). x ∷ []) is
     by_rest (g ∷ gs) before faults first is =
-      let other : g ≡ finding_at f.place = the_finding m small f.place first g (All-head (IsLocalFault m) g gs faults) in
-      absurd (not_before_itself f (subst (λ (x : Finding). IsBefore f x) (other ∙ sym is) (All-head (IsBefore f) g gs before)))
+        let other : g ≡ finding_at f.place = the_finding m small f.place first g (All-head (IsLocalFault m) g gs faults) in
+        absurd (not_before_itself f (subst (λ (x : Finding). IsBefore f x) (other ∙ sym is) (All-head (IsBefore f) g gs before)))
 
 -- the one function of a spelled module is `main`
 record IsNamed (m : Module) : Type 0 where

@@ -1,7 +1,6 @@
 -- A local run of a small function in any unit ends as the first false assert says.
-use Rattle.std.proofs.Common.{◌≡◌, ◌⊎◌, ℕ, zero, suc, ◌+◌, ◌≤◌, ◌<◌, max, List, [], ◌∷◌, map, length, replicate, refl, sym, ap, subst, ◌∙◌, inl, inr, arith}
-use Rattle.std.specs.Bool.{⊤}
-use Rattle.std.specs.Prelude.{ℤ, pos, ◌+ℤ◌, ◌-ℤ◌, ◌*ℤ◌, ◌≤ℤ◌, Bool, true, false, not, ◌==◌, ◌≢◌, Option, Some, None, slice_get, slice_set, slice_index_or, if◌then◌else◌}
+use Rattle.std.proofs.Common.{◌≡◌, ◌⊎◌, ℕ, zero, suc, ◌≤◌, ◌<◌, max, List, [], ◌∷◌, length, replicate, refl, sym, ap, subst, ◌∙◌, inl, inr, arith}
+use Rattle.std.specs.Prelude.{ℤ, pos, ◌*ℤ◌, ◌≤ℤ◌, Bool, true, false, not, ◌==◌, ◌≢◌, Option, Some, None, slice_get, slice_set, if◌then◌else◌}
 use Rattle.std.specs.Option.{option_and_then}
 use Rattle.std.specs.Ordering.{int_eq}
 use Rattle.std.proofs.lemmas.Bool.{eqb-true, eqb-false}
@@ -24,8 +23,8 @@ use Rattle.py_syntax.specs.declared.Item.TheVariants as item
 use Rattle.py_syntax.specs.ExprItems.{expr_items, form_items}
 use Rattle.py_syntax.specs.StmtItems.{printed_items, stmt_form_items, making_items}
 use Rattle.py_syntax.specs.ItemLaws.{expr_items_is}
-use Rattle.py_syntax.specs.SmallForms.{IsOperandForm, IsOperand, IsSumForm, IsSum, IsEquationForm, IsEquation, IsPrinted, IsSmallStmtForm, IsSmallBody, IsSmallMethod, assigned_form, assigned_behind}
-use Rattle.py_syntax.specs.SmallLocal.{Outcome, Ended, Stopped, Fault, needs, hopes, local_from, local}
+use Rattle.py_syntax.specs.SmallForms.{IsOperandForm, IsOperand, IsSumForm, IsSum, IsEquationForm, IsPrinted, IsSmallStmtForm, IsSmallBody, IsSmallMethod, assigned_form}
+use Rattle.py_syntax.specs.SmallLocal.{Outcome, Ended, Fault, hopes, local_from, local}
 use Rattle.nagini_cli.specs.SmallRun.{value_of, local_value, applied, differs_in, is_false_form, after_form, first_false_in, first_false_of}
 use Rattle.nagini_cli.proofs.Reach.{form_value, value_of-out}
 use Rattle.nagini_cli.proofs.Parts.{compared_is}
@@ -97,6 +96,7 @@ asserted q p rest store true later is = is
 asserted q p rest store false later is = refl
 
 equation_form : (q : ℤ) (k : ℕ) (locals : List ℤ) (store : List (Option Value)) (form : ExprForm-F ExprForm Expr Instance) (o p : Place) (rest : List (Item Value)) (later : Option Place) → pos 1 ≤ℤ q → Holds q k locals store → IsEquationForm k form → local_from q rest [] store ≡ ends_at later → local_from q (form_items (λ e. e) expr_items form o (item.Check p ∷ rest)) [] store ≡ ends_at (if differs_in form locals then Some p else later)
+unfolding parts
 equation_form q k locals store (ExprForm-F.Bin key a b) o p rest later unit holds (is, left, right) next =
     let x : ℤ = value_of a locals in
     let y : ℤ = value_of b locals in
@@ -105,9 +105,8 @@ equation_form q k locals store (ExprForm-F.Bin key a b) o p rest later unit hold
     ∙ compare key x y is
   where
     compare : (key : ℕ) (x y : ℤ) → key ≡ 11 → local_from q (item.Bin o key ∷ item.Check p ∷ rest) (parts q y ∷ parts q x ∷ []) store ≡ ends_at (if (if key == 11 then not (int_eq x y) else false) then Some p else later)
-    unfolding parts
     compare key x y is = subst (λ (j : ℕ). local_from q (item.Bin o j ∷ item.Check p ∷ rest) (Num (y *ℤ q) ∷ Num (x *ℤ q) ∷ []) store ≡ ends_at (if (if j == 11 then not (int_eq x y) else false) then Some p else later)) (sym is)
-      (ap (λ o. hopes o (λ c. local_from q (item.Check p ∷ rest) (c ∷ []) store)) (compared_is q x y unit) ∙ asserted q p rest store (int_eq x y) later next)
+        (ap (λ o. hopes o (λ c. local_from q (item.Check p ∷ rest) (c ∷ []) store)) (compared_is q x y unit) ∙ asserted q p rest store (int_eq x y) later next)
 equation_form q k locals store form o p rest later unit holds is next = absurd is
 
 -- a new value of a local, in parts
@@ -119,19 +118,19 @@ stored q k i v locals store holds known there = record {
   where
     by_place : (j : ℕ) → j < max k (suc i) → (same : Bool) → (j == i) ≡ same → slice_get (slice_set store i (Some (parts q v))) j ≡ Some (Some (parts q (local_value j (slice_set locals i v))))
     by_place j below true e =
-      let is : i ≡ j = sym (eqb-true j i e) in
-      subst (λ (n : ℕ). slice_get (slice_set store i (Some (parts q v))) n ≡ Some (Some (parts q (local_value n (slice_set locals i v))))) is
-      (set_same store i (Some (parts q v)) (subst (λ n. i < n) (sym holds.as_long) there) ∙ ap (λ z. Some (Some (parts q z))) (sym (get_or-set_same locals i v (pos 0) there)))
+        let is : i ≡ j = sym (eqb-true j i e) in
+        subst (λ (n : ℕ). slice_get (slice_set store i (Some (parts q v))) n ≡ Some (Some (parts q (local_value n (slice_set locals i v))))) is
+        (set_same store i (Some (parts q v)) (subst (λ n. i < n) (sym holds.as_long) there) ∙ ap (λ z. Some (Some (parts q z))) (sym (get_or-set_same locals i v (pos 0) there)))
     by_place j below false e =
-      let apart : j ≢ i = eqb-false j i e in
-      set_other store i j (Some (parts q v)) apart ∙ holds.kept j (omega arith) ∙ ap (λ z. Some (Some (parts q z))) (sym (get_or-set_other locals i j v (pos 0) apart))
+        let apart : j ≢ i = eqb-false j i e in
+        set_other store i j (Some (parts q v)) apart ∙ holds.kept j (omega arith) ∙ ap (λ z. Some (Some (parts q z))) (sym (get_or-set_other locals i j v (pos 0) apart))
 
 after_length : (form : StmtForm-F StmtForm Stmt) (locals : List ℤ) → length (after_form form locals) ≡ length locals
 after_length (StmtForm-F.Store i e) locals = length-set locals i (value_of e locals)
 after_length form locals = refl
 
 -- what a statement leaves is gone on with
-GoesOn : ℤ → ℕ → List ℤ → List (Item Value) → Option Place → Type 0
+abbrev GoesOn : ℤ → ℕ → List ℤ → List (Item Value) → Option Place → Type 0
 GoesOn q k locals rest later = (store : List (Option Value)) → Holds q k locals store → local_from q rest [] store ≡ ends_at later
 
 printed : (q : ℤ) (k : ℕ) (locals : List ℤ) (store : List (Option Value)) (args : List PrintArg) (rest : List (Item Value)) (later : Option Place) → Holds q k locals store → IsPrinted k args → GoesOn q k locals rest later → local_from q (printed_items args (item.Print args ∷ rest)) [] store ≡ ends_at later

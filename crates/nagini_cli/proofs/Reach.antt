@@ -37,7 +37,7 @@ IsWithin-sub : (b : ℕ) (x y : ℤ) → IsWithin b x → IsWithin b y → IsWit
 IsWithin-sub b x y v w = record { low = omega (arith, ints); high = omega (arith, ints) }
 
 -- the value of one level of an expression
-pub form_value : ExprForm-F ExprForm Expr Instance → Meaning
+unfoldable pub form_value : ExprForm-F ExprForm Expr Instance → Meaning
 form_value form = form_meaning (map-ExprForm ExprForm Expr Instance Meaning Meaning (Unit {0}) (fold-ExprForm Meaning Meaning (Unit {0}) form_meaning expr_meaning instance_meaning) value_of (fold-Instance Meaning Meaning (Unit {0}) form_meaning expr_meaning instance_meaning) form)
 
 pub value_of-out : (e : Expr) → value_of e ≡ form_value (out-ExprForm (out-Expr e).form)

@@ -1,10 +1,9 @@
 -- A module that a text spells has the shape of a small one: each local is read behind its first assignment.
-use Rattle.std.proofs.Common.{◌≡◌, ◌⊎◌, ℕ, zero, suc, ◌+◌, ◌≤◌, ◌<◌, max, List, [], ◌∷◌, ◌++◌, length, replicate, refl, sym, ap, subst, ◌∙◌, inl, inr, arith}
+use Rattle.std.proofs.Common.{◌≡◌, ◌⊎◌, ℕ, suc, ◌+◌, ◌≤◌, ◌<◌, max, List, [], ◌∷◌, ◌++◌, length, refl, sym, ap, subst, ◌∙◌, inl, inr, arith}
 use Rattle.std.specs.Prelude.{pos, Bool, true, false, not, ◌||◌, IsTrue, bytes_eq, if◌then◌else◌}
 use Rattle.std.specs.List.{list_any, position_or_len}
 use Rattle.std.proofs.lemmas.List.{length-replicate, length-append}
 use Rattle.py_base.specs.declared.Place.{Place}
-use Rattle.py_syntax.specs.declared.Ty.{Ty}
 use Rattle.py_syntax.specs.declared.Ty.TheVariants.{Int}
 use Rattle.py_syntax.specs.declared.Expr.{Expr}
 use Rattle.py_syntax.specs.declared.ExprForm.{ExprForm, ExprForm-F, out-ExprForm}
@@ -40,7 +39,7 @@ known_below names name known = by_found (found (bytes_eq name) names)
   where
     by_found : ((list_any (bytes_eq name) names ≡ true) × (position_or_len (bytes_eq name) names < length names)) ⊎ ((list_any (bytes_eq name) names ≡ false) × (position_or_len (bytes_eq name) names ≡ length names)) → position_or_len (bytes_eq name) names < length names
     by_found (inl (some, below)) = below
-    by_found (inr (none, past)) = absurd (subst IsTrue none known)
+    by_found (inr (none, past)) = cc
 
 -- The number of an assigned name: of one of the names, or the next. Behind the assignment one more name is assigned at most.
 pub record Assigns (names : List (List ℕ)) (name : List ℕ) : Type 0 where
@@ -72,7 +71,7 @@ expr names line col bytes e (spells_plus s) = rw s.is (rw (out-Bin _ _ _) (inl r
 expr names line col bytes e (spells_minus s) = rw s.is (rw (out-Bin _ _ _) (inr refl, operand names _ s.x s.a s.left, operand names _ s.y s.b s.right))
 
 -- what is shown of a statement: its shape where there are n locals, and how many are assigned behind it
-ShowsStmt : List (List ℕ) → Stmt → List (List ℕ) → Type 0
+abbrev ShowsStmt : List (List ℕ) → Stmt → List (List ℕ) → Type 0
 ShowsStmt names s after = ((n : ℕ) → length after ≤ n → IsSmallStmtForm n (length names) (out-StmtForm s.form)) × (assigned_behind (length names) s ≡ length after)
 
 stmt : (names : List (List ℕ)) (line : ℕ) (bytes : List ℕ) (s : Stmt) (after : List (List ℕ)) → SpellsStmt names line bytes s after → ShowsStmt names s after

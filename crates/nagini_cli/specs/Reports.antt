@@ -1,5 +1,5 @@
 -- The report of a module: its local faults, each once, in the order of their places, kinds and methods, and then their number.
-use Rattle.std.specs.Prelude.{ℕ, List, [], ◌∷◌, ◌++◌, length, All, Contains, Option, Some, None, slice_get, flat_map, codes}
+use Rattle.std.specs.Prelude.{ℕ, List, [], ◌++◌, length, All, Contains, Option, Some, None, slice_get, flat_map, codes}
 use Rattle.std.specs.Option.{option_map_or}
 use Rattle.py_syntax.specs.declared.Class.{Class}
 use Rattle.py_syntax.specs.declared.Method.{Method}

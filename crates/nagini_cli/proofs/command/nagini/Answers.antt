@@ -1,7 +1,6 @@
 use Rattle.std.proofs.Common.{sym, refl, arith}
 use Rattle.std.proofs.lemmas.Result.{IfOk-weaker}
 use Rattle.nagini_cli.specs.Answers.{no_main, not_built, accepted, not_proved}
-use Rattle.std.specs.Io.KnownBytes.{Appends}
 use Rattle.nagini_cli.proofs.Faults.{first_fault}
 use Rattle.nagini_cli.proofs.Verdicts.{accepted_of, not_proved_of}
 use Rattle.nagini_cli.proofs.Replied.{whole_of, part_of, told_of, usage_part_of, read_fault_of, row_of}
@@ -40,7 +39,7 @@ returns-in-Some-clause-accepted g c = λ bytes asks is.
 pub returns-in-Some-clause-not_proved : goal.returns-in-Some-clause-not_proved
 returns-in-Some-clause-not_proved g c = λ bytes asks is.
     let answer = told_of c.check.result _ _ c.in-Some.file.now bytes _ _ _ (sym c.in-Some.ensures) c.check.ensures.told (c.finish.ensures.whole (λ e. omega (arith, is, e), λ e. omega (arith, is, e))) asks (λ e. omega (arith, is, e)) in
-    not_proved_of (λ text. Appends _ _ text) bytes _ _ is answer.1.answers answer.2
+    not_proved_of _ _ bytes _ _ is answer.1.answers answer.2
 
 pub returns-in-Some-clause-reports : goal.returns-in-Some-clause-reports
 returns-in-Some-clause-reports g c = λ bytes m f asks is_answered within spelled fault.
