@@ -1,0 +1,5 @@
+pub mod Widths
+pub mod Computes
+pub mod ReadingWidths
+pub mod DutyWidths
+pub mod ItemWidths

@@ -1,0 +1,6 @@
+//! Laws about the definition of a run.
+#![tactic(auto)]
+
+mod laws;
+
+pub use laws::a_width_changes_nothing_else;
