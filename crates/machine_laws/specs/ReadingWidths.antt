@@ -149,10 +149,10 @@ opened_computes : (opens : Opens) (held : Option Value → Bool) → AreComputed
 opened_computes opens held h p q None = same _
 opened_computes opens held h p q (Some vs) = then_computes _ _ (h q vs) (λ b. same _)
 
-abbrev of_assertion : Assertion-F (Place → Judgement) Judgement → Judgement
+abbrev pub of_assertion : Assertion-F (Place → Judgement) Judgement → Judgement
 of_assertion a = a.form a.place
 
-abbrev atom_read : Width → AtomForm → Place → Judgement
+abbrev pub atom_read : Width → AtomForm → Place → Judgement
 atom_read fits = fold-AtomForm (Place → Judgement) Judgement (atom_judgement fits) of_assertion
 
 abbrev AtomReads : AtomForm → Type 0
@@ -173,7 +173,7 @@ plain_atom y = map-AtomForm Atoms Assertions AtomForm Assertion (λ e. e.0) (λ 
 abbrev plain_assertion : Assertion-F Atoms Assertions → Assertion-F AtomForm Assertion
 plain_assertion y = map-Assertion Atoms Assertions AtomForm Assertion (λ e. e.0) (λ e. e.0) y
 
-abbrev layer_judged : Width → AtomForm-F AtomForm Assertion → Place → Judgement
+abbrev pub layer_judged : Width → AtomForm-F AtomForm Assertion → Place → Judgement
 layer_judged fits x = atom_judgement fits (map-AtomForm AtomForm Assertion (Place → Judgement) Judgement (atom_read fits) (judgement fits) x)
 
 all_computes : (opens : Opens) → AreComputed opens → (held : Option Value → Bool) (all : List Assertions) (s : Scene) → Computes (λ fits. all_hold (map (judgement fits) (map (λ (a : Assertions). a.0) all)) (judged_by opens held fits) s)
