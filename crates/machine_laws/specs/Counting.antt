@@ -5,6 +5,7 @@ use Rattle.std.proofs.Math.Nat.{pow-zero, pow-succ', add-suc, suc-add, suc-mul}
 use Rattle.std.proofs.lemmas.Bool.{cases_eq}
 use Rattle.std.proofs.lemmas.List.{length-map, length-append}
 use Rattle.std.proofs.lemmas.List.Elements.{All-head, All-tail}
+use Rattle.std.proofs.lemmas.List.Sums.{sum_by-cons}
 use Rattle.py_syntax.specs.declared.Value.{Value}
 use Rattle.py_syntax.specs.declared.Value.TheVariants.{Num, Truth, Nil, Ref}
 use Rattle.py_syntax.specs.declared.Pred.{Pred}
@@ -90,37 +91,77 @@ list_in n zero (v ∷ vs) is h = absurd (omega arith)
 list_in n (suc k) [] is h = absurd (omega arith)
 list_in n (suc k) (v ∷ vs) is h = begun_in v vs (objects_of n) (lists_of n k) (object_in n v (All-head (IsObject n) v vs h)) (list_in n k vs (omega arith) (All-tail (IsObject n) v vs h))
 
+-- an instance, by its predicate and its arguments
+abbrev pub instance : ℕ → List Value → Opened
+instance q vs = (q, vs)
+
 -- the instances of these predicates, from the one of this number on
 abbrev pub instances_from : ℕ → ℕ → List Pred → List Opened
 instances_from n i [] = []
-instances_from n i (p ∷ ps) = map (λ (vs : List Value). (i, vs)) (lists_of n (length p.params)) ++ instances_from n (suc i) ps
+instances_from n i (p ∷ ps) = map (instance i) (lists_of n (length p.params)) ++ instances_from n (suc i) ps
 
-pub count_instances : (n i : ℕ) (ps : List Pred) → length (instances_from n i ps) ≡ sum (map (λ (p : Pred). suc n ^ length p.params) ps)
+abbrev powers : ℕ → List Pred → List ℕ
+powers n ps = map (λ (p : Pred). suc n ^ length p.params) ps
+
+pub count_instances : (n i : ℕ) (ps : List Pred) → length (instances_from n i ps) ≡ sum (powers n ps)
 count_instances n i [] = refl
 count_instances n i (p ∷ ps) =
-    length-append (map (λ (vs : List Value). (i, vs)) (lists_of n (length p.params))) (instances_from n (suc i) ps)
-    ∙ ap (λ k. k + length (instances_from n (suc i) ps)) (length-map (lists_of n (length p.params)) (λ vs. (i, vs)) ∙ count_lists n (length p.params))
+    length-append (map (instance i) (lists_of n (length p.params))) (instances_from n (suc i) ps)
+    ∙ ap (λ k. k + length (instances_from n (suc i) ps)) (length-map (lists_of n (length p.params)) (instance i) ∙ count_lists n (length p.params))
     ∙ ap (λ k. suc n ^ length p.params + k) (count_instances n (suc i) ps)
+    ∙ sym (sum_by-cons (λ (x : ℕ). x) (suc n ^ length p.params) (powers n ps))
 
-pub instance_in : (n i q : ℕ) (ps : List Pred) (pred : Pred) (vs : List Value) → slice_get ps q ≡ Some pred → length vs ≡ length pred.params → All (IsObject n) vs → In (i + q, vs) (instances_from n i ps)
+pub instance_in : (n i q : ℕ) (ps : List Pred) (pred : Pred) (vs : List Value) → slice_get ps q ≡ Some pred → length vs ≡ length pred.params → All (IsObject n) vs → In (instance (i + q) vs) (instances_from n i ps)
 instance_in n i q [] pred vs is len h = cc
 instance_in n i zero (p ∷ ps) pred vs is len h =
     let same : p ≡ pred = cc in
     let taken : length vs ≡ length p.params = len ∙ ap (λ (x : Pred). length x.params) (sym same) in
     let at : i ≡ i + zero = omega arith in
-    in_left (i + zero, vs) (map (λ (ws : List Value). (i, ws)) (lists_of n (length p.params))) (instances_from n (suc i) ps)
-    (subst (λ k. In (k, vs) (map (λ (ws : List Value). (i, ws)) (lists_of n (length p.params)))) at
-    (in_map (λ (ws : List Value). (i, ws)) vs (lists_of n (length p.params)) (list_in n (length p.params) vs taken h)))
+    in_left (instance (i + zero) vs) (map (instance i) (lists_of n (length p.params))) (instances_from n (suc i) ps)
+    (subst (λ k. In (instance k vs) (map (instance i) (lists_of n (length p.params)))) at
+    (in_map (instance i) vs (lists_of n (length p.params)) (list_in n (length p.params) vs taken h)))
 instance_in n i (suc q) (p ∷ ps) pred vs is len h =
     let at : suc i + q ≡ i + suc q = omega arith in
-    in_right (i + suc q, vs) (map (λ (ws : List Value). (i, ws)) (lists_of n (length p.params))) (instances_from n (suc i) ps)
-    (subst (λ k. In (k, vs) (instances_from n (suc i) ps)) at (instance_in n (suc i) q ps pred vs is len h))
+    in_right (instance (i + suc q) vs) (map (instance i) (lists_of n (length p.params))) (instances_from n (suc i) ps)
+    (subst (λ k. In (instance k vs) (instances_from n (suc i) ps)) at (instance_in n (suc i) q ps pred vs is len h))
 
 -- how many pass a test
+abbrev one_if : Bool → ℕ → ℕ
+one_if true n = suc n
+one_if false n = n
+
 abbrev pub passing : {A : Type 0} → (A → Bool) → List A → ℕ
 passing p [] = 0
 passing p (x ∷ xs) = one_if (p x) (passing p xs)
+
+pub passing_at_most : {A : Type 0} (p : A → Bool) (xs : List A) → passing p xs ≤ length xs
+passing_at_most p [] = omega arith
+passing_at_most p (x ∷ xs) = of_test (p x) (passing p xs) (length xs) (passing_at_most p xs)
   where
-    one_if : Bool → ℕ → ℕ
-    one_if true n = suc n
-    one_if false n = n
+    of_test : (b : Bool) (n k : ℕ) → n ≤ k → one_if b n ≤ suc k
+    of_test true n k h = omega arith
+    of_test false n k h = omega arith
+
+-- no more pass the second test than the first
+abbrev pub NoMore : {A : Type 0} → (A → Bool) → (A → Bool) → List A → Type 0
+NoMore p q [] = Unit {0}
+NoMore p q (x ∷ xs) = (q x ≡ true → p x ≡ true) × NoMore p q xs
+
+pub no_more_at : {A : Type 0} (p q : A → Bool) (xs : List A) (x : A) → NoMore p q xs → In x xs → q x ≡ true → p x ≡ true
+no_more_at p q [] x h k e = absurd k
+no_more_at p q (y ∷ xs) x h (inl is) e = ap p is ∙ h.0 (ap q (sym is) ∙ e)
+no_more_at p q (y ∷ xs) x h (inr k) e = no_more_at p q xs x h.1 k e
+
+-- where what passes the first test passes the second, either as many pass both, or more pass the second
+pub no_more_or_more : {A : Type 0} (p q : A → Bool) (xs : List A) → ((x : A) → p x ≡ true → q x ≡ true) → (NoMore p q xs × (passing p xs ≤ passing q xs)) ⊎ (passing p xs < passing q xs)
+no_more_or_more p q [] h = inl (tt, omega arith)
+no_more_or_more p q (x ∷ xs) h = of_tests (p x) (q x) (passing p xs) (passing q xs) (NoMore p q xs) (h x) (no_more_or_more p q xs h)
+  where
+    of_tests : (b c : Bool) (n k : ℕ) (K : Type 0) → (b ≡ true → c ≡ true) → (K × (n ≤ k)) ⊎ (n < k) → (((c ≡ true → b ≡ true) × K) × (one_if b n ≤ one_if c k)) ⊎ (one_if b n < one_if c k)
+    of_tests true true n k K h (inl found) = inl (((λ e. refl), found.0), omega arith)
+    of_tests true true n k K h (inr less) = inr (omega arith)
+    of_tests false false n k K h (inl found) = inl (((λ e. e), found.0), omega arith)
+    of_tests false false n k K h (inr less) = inr (omega arith)
+    of_tests false true n k K h (inl found) = inr (omega arith)
+    of_tests false true n k K h (inr less) = inr (omega arith)
+    of_tests true false n k K h found = let never : false ≡ true = h refl in cc

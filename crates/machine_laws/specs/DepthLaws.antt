@@ -192,7 +192,7 @@ same_values_is (v ∷ vs) (w ∷ ws) h =
     ap (λ x. x ∷ vs) (same_value_is v w parts.0) ∙ ap (λ xs. w ∷ xs) (same_values_is vs ws parts.1)
 same_values_is vs ws h = cc
 
-abbrev IsNotHeld : Width → Module → Scene → ℕ → Opened → Type 0
+abbrev pub IsNotHeld : Width → Module → Scene → ℕ → Opened → Type 0
 IsNotHeld fits m s k o = holds_at fits m s k o.0 o.1 ≡ Got true → ⊥
 
 not_true : (b : Bool) → (b ≡ true → ⊥) → b ≡ false

@@ -6,3 +6,4 @@ pub mod ItemWidths
 pub mod Depths
 pub mod DepthLaws
 pub mod Counting
+pub mod DepthBound
