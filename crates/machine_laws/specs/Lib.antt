@@ -7,3 +7,6 @@ pub mod Depths
 pub mod DepthLaws
 pub mod Counting
 pub mod DepthBound
+pub mod Growth
+pub mod GrowthParts
+pub mod ItemGrowth
