@@ -3,6 +3,7 @@ use Rattle.std.specs.Prelude.{◌≡◌, Bool, true, List, [], ◌∷◌, ◌++�
 use Rattle.machine_model.specs.declared.state.Object.{Object}
 use Rattle.machine_model.specs.declared.state.LockState.{LockState}
 use Rattle.machine_model.specs.declared.state.ThreadState.{ThreadState}
+use Rattle.machine_model.specs.declared.state.State.{State}
 use Rattle.machine_model.specs.Steps.{Run}
 
 -- a list that goes on behind this one
@@ -28,10 +29,14 @@ ThreadsGrow [] later = Unit {0}
 ThreadsGrow (th ∷ ths) [] = ⊥
 ThreadsGrow (th ∷ ths) (u ∷ us) = (u.own ≡ th.own) × (th.ended ≡ true → u.ended ≡ true) × ThreadsGrow ths us
 
+-- A state that has come of another.
+pub record StateGrows (s u : State) : Type 0 where
+  pub heap : HeapGrows s.heap u.heap
+  pub threads : ThreadsGrow s.threads u.threads
+
 -- A run that goes on from another.
 pub record Extends (r q : Run) : Type 0 where
-  pub heap : HeapGrows (r.state).heap (q.state).heap
-  pub threads : ThreadsGrow (r.state).threads (q.state).threads
+  pub state : StateGrows r.state q.state
   pub lines : GoesOn r.lines q.lines
   pub events : GoesOn r.events q.events
   pub faults : GoesOn r.faults q.faults

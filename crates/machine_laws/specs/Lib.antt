@@ -10,3 +10,4 @@ pub mod DepthBound
 pub mod Growth
 pub mod GrowthParts
 pub mod ItemGrowth
+pub mod RunGrowth

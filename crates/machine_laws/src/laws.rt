@@ -1,11 +1,14 @@
 // Laws that hold of every module and every state.
-ghost use Rattle.std.specs.Prelude.{◌≡◌, ◌↔◌, ℕ, ◌≤◌, true, List, []};
+ghost use Rattle.std.specs.Prelude.{◌≡◌, ◌↔◌, ℕ, ◌≤◌, true, List, [], ◌++◌};
 ghost use Rattle.py_syntax.specs.declared.Value.{Value};
 ghost use Rattle.py_syntax.specs.declared.Module.{Module};
 ghost use Rattle.machine_model.specs.declared.state.State.{State};
 ghost use Rattle.machine_model.specs.Results.{Got, Width};
 ghost use Rattle.machine_model.specs.Evaluation.{Scene};
 ghost use Rattle.machine_model.specs.Reading.{Opened, opens_within, room};
+ghost use Rattle.machine_model.specs.Frames.{After};
+ghost use Rattle.machine_model.specs.Steps.{Went, step, after};
+ghost use Rattle.machine_laws.specs.Growth.{StateGrows, Extends};
 ghost use Rattle.machine_laws.specs.Widths.{Computed, StepComputes};
 ghost use Rattle.machine_laws.specs.Depths.{holds_at, Holds, Takes, StaysAmongObjects};
 
@@ -32,4 +35,13 @@ pub fn reading_finds_what_holds()
     ensures within_room { (fits : Width) (m : Module) (s : Scene) (objects q : ℕ) (vs : List Value) →
         StaysAmongObjects fits m s objects → Takes m objects q vs →
         (opens_within fits m s (room m objects) [] q vs ≡ Got true) ↔ Holds fits m s q vs }
+{}
+
+/// A step within any width loses no object and no thread, no object changes its class or its lock's
+/// object and level, and no thread comes back that has ended. A run with more steps goes on from the
+/// run so far, in its state and in all that it has shown.
+pub fn runs_only_grow()
+    ensures steps { (fits : Width) (m : Module) (s : State) (t : ℕ) (a : After) (u : State) →
+        step fits m s t ≡ Went a u → StateGrows s u }
+    ensures runs { (m : Module) (list more : List ℕ) → Extends (after m list) (after m (list ++ more)) }
 {}
