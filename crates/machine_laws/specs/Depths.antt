@@ -60,3 +60,32 @@ NamesTaken fits m objects s i = (vs : List Value) → values_of fits s (out-Inst
 -- The bodies of predicates, read at such arguments, name instances with such arguments alone.
 abbrev pub StaysAmongObjects : Width → Module → Scene → ℕ → Type 0
 StaysAmongObjects fits m s objects = (q : ℕ) (pred : Pred) (vs : List Value) → slice_get m.predicates q ≡ Some pred → Takes m objects q vs → All (NamesTaken fits m objects (within s vs)) (instances_of pred.body)
+
+-- a value that names none but the first so many objects
+abbrev pub IsBelow : ℕ → Value → Type 0
+IsBelow objects (Ref r) = r < objects
+IsBelow objects v = Unit {0}
+
+abbrev pub IsBelowIfAny : ℕ → Option Value → Type 0
+IsBelowIfAny objects None = Unit {0}
+IsBelowIfAny objects (Some v) = IsBelow objects v
+
+-- The fields and the locked objects of a scene are so, now and before.
+pub record IsOver (objects : ℕ) (s : Scene) : Type 0 where
+  pub now : (r f : ℕ) → IsBelowIfAny objects (s.now r f)
+  pub before : (r f : ℕ) → IsBelowIfAny objects (s.before r f)
+  pub locked : (r : ℕ) → IsBelowIfAny objects (s.locked r)
+
+abbrev pub IsReference : Value → Type 0
+IsReference Nil = Unit {0}
+IsReference (Ref r) = Unit {0}
+IsReference v = ⊥
+
+-- an instance is named with as many arguments as its predicate has parameters, each None or a reference where it is defined
+pub record NamesReferences (fits : Width) (m : Module) (s : Scene) (i : Instance) : Type 0 where
+  pub count : (pred : Pred) → slice_get m.predicates (out-Instance i).pred ≡ Some pred → length (out-Instance i).args ≡ length pred.params
+  pub are_references : (vs : List Value) → values_of fits s (out-Instance i).args ≡ Got (Some vs) → All IsReference vs
+
+-- The bodies of predicates, read at such arguments, name instances so.
+abbrev pub BodiesNameReferences : Width → Module → Scene → ℕ → Type 0
+BodiesNameReferences fits m s objects = (q : ℕ) (pred : Pred) (vs : List Value) → slice_get m.predicates q ≡ Some pred → Takes m objects q vs → All (NamesReferences fits m (within s vs)) (instances_of pred.body)

@@ -9,5 +9,6 @@ pub mod Counting
 pub mod DepthBound
 pub mod Growth
 pub mod GrowthParts
+pub mod SceneLaws
 pub mod ItemGrowth
 pub mod RunGrowth

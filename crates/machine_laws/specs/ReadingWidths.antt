@@ -39,16 +39,16 @@ given_computes p None = same undefined
 given_computes p (Some v) = then_computes _ _ (sized_computes p v) (λ w. same (defined w))
 
 -- the reading of expressions
-abbrev of_expr : Expr-F (Place → Meaning) Meaning (Unit {0}) → Meaning
+abbrev pub of_expr : Expr-F (Place → Meaning) Meaning (Unit {0}) → Meaning
 of_expr e = e.form e.place
 
-abbrev of_instance : Instance-F (Place → Meaning) Meaning (Unit {0}) → Unit {0}
+abbrev pub of_instance : Instance-F (Place → Meaning) Meaning (Unit {0}) → Unit {0}
 of_instance i = tt
 
-abbrev form_read : Width → ExprForm → Place → Meaning
+abbrev pub form_read : Width → ExprForm → Place → Meaning
 form_read fits = fold-ExprForm (Place → Meaning) Meaning (Unit {0}) (form_meaning fits) of_expr of_instance
 
-abbrev instance_read : Width → Instance → Unit {0}
+abbrev pub instance_read : Width → Instance → Unit {0}
 instance_read fits = fold-Instance (Place → Meaning) Meaning (Unit {0}) (form_meaning fits) of_expr of_instance
 
 abbrev FormReads : ExprForm → Type 0
@@ -75,7 +75,7 @@ plain_form y = map-ExprForm Forms Exprs Instances ExprForm Expr Instance (λ e. 
 abbrev plain_expr : Expr-F Forms Exprs Instances → Expr-F ExprForm Expr Instance
 plain_expr y = map-Expr Forms Exprs Instances ExprForm Expr Instance (λ e. e.0) (λ e. e.0) (λ e. e.0) y
 
-abbrev layer_read : Width → ExprForm-F ExprForm Expr Instance → Place → Meaning
+abbrev pub layer_read : Width → ExprForm-F ExprForm Expr Instance → Place → Meaning
 layer_read fits x = form_meaning fits (map-ExprForm ExprForm Expr Instance (Place → Meaning) Meaning (Unit {0}) (form_read fits) (meaning fits) (instance_read fits) x)
 
 abbrev meanings : Width → List Exprs → List Meaning

@@ -10,7 +10,7 @@ ghost use Rattle.machine_model.specs.Frames.{After};
 ghost use Rattle.machine_model.specs.Steps.{Went, step, after};
 ghost use Rattle.machine_laws.specs.Growth.{StateGrows, Extends};
 ghost use Rattle.machine_laws.specs.Widths.{Computed, StepComputes};
-ghost use Rattle.machine_laws.specs.Depths.{holds_at, Holds, Takes, StaysAmongObjects};
+ghost use Rattle.machine_laws.specs.Depths.{holds_at, Holds, Takes, StaysAmongObjects, IsOver, BodiesNameReferences};
 
 /// Each step computes a list of numbers that the width has no part in, and stops at the first of
 /// them that the width doesn't let through.
@@ -44,4 +44,11 @@ pub fn runs_only_grow()
     ensures steps { (fits : Width) (m : Module) (s : State) (t : ℕ) (a : After) (u : State) →
         step fits m s t ≡ Went a u → StateGrows s u }
     ensures runs { (m : Module) (list more : List ℕ) → Extends (after m list) (after m (list ++ more)) }
+{}
+
+/// In a scene over so many objects the reading stays among them, where the bodies of predicates name
+/// instances with references alone.
+pub fn a_scene_over_objects_stays_among_them()
+    ensures { (fits : Width) (m : Module) (s : Scene) (objects : ℕ) →
+        IsOver objects s → BodiesNameReferences fits m s objects → StaysAmongObjects fits m s objects }
 {}
