@@ -1,5 +1,6 @@
 // Laws that hold of every module and every state.
 ghost use Rattle.std.specs.Prelude.{◌≡◌, ◌↔◌, ℕ, ◌≤◌, true, List, [], ◌++◌};
+ghost use Rattle.py_base.specs.declared.Place.{Place};
 ghost use Rattle.py_syntax.specs.declared.Value.{Value};
 ghost use Rattle.py_syntax.specs.declared.Module.{Module};
 ghost use Rattle.machine_model.specs.declared.state.State.{State};
@@ -7,15 +8,16 @@ ghost use Rattle.machine_model.specs.Results.{Got, Width};
 ghost use Rattle.machine_model.specs.Evaluation.{Scene};
 ghost use Rattle.machine_model.specs.Reading.{Opened, opens_within, room};
 ghost use Rattle.machine_model.specs.Frames.{After};
-ghost use Rattle.machine_model.specs.Steps.{Went, step, after};
+ghost use Rattle.machine_model.specs.Steps.{Went, TooLarge, step, whole, after};
 ghost use Rattle.machine_laws.specs.Growth.{StateGrows, Extends};
 ghost use Rattle.machine_laws.specs.Widths.{Computed, StepComputes};
 ghost use Rattle.machine_laws.specs.Depths.{holds_at, Holds, Takes, StaysAmongObjects, IsOver, BodiesNameReferences};
 
 /// Each step computes a list of numbers that the width has no part in, and stops at the first of
-/// them that the width doesn't let through.
+/// them that the width doesn't let through. Over whole numbers none is too large.
 pub fn a_width_changes_nothing_else()
-    ensures { (m : Module) (s : State) (t : ℕ) → (numbers : List Computed) × StepComputes m s t numbers }
+    ensures exact { (m : Module) (s : State) (t : ℕ) → (numbers : List Computed) × StepComputes m s t numbers }
+    ensures all_fit { (m : Module) (s : State) (t : ℕ) (p : Place) → step whole m s t ≡ TooLarge p → ⊥ }
 {}
 
 /// An instance that holds at a depth holds at each greater one.
