@@ -1,0 +1,14 @@
+pub mod Widths
+pub mod Computes
+pub mod ReadingWidths
+pub mod DutyWidths
+pub mod ItemWidths
+pub mod Depths
+pub mod DepthLaws
+pub mod Counting
+pub mod DepthBound
+pub mod Growth
+pub mod GrowthParts
+pub mod SceneLaws
+pub mod ItemGrowth
+pub mod RunGrowth

@@ -1,0 +1,6 @@
+//! Laws about the definition of a run.
+#![tactic(auto)]
+
+mod laws;
+
+pub use laws::{a_scene_over_objects_stays_among_them, a_width_changes_nothing_else, more_depth_keeps_what_holds, reading_finds_what_holds, runs_only_grow};
