@@ -33,7 +33,7 @@ use Rattle.machine_model.specs.Moments.{at_atom, at_call, scene_of, atoms_hold, 
 use Rattle.machine_model.specs.Frames.{After, operand, pop_value, pop_truth, pop_number, pop_receiver, pop_arguments, local_at, stored, stays, must_terminate}
 use Rattle.machine_model.specs.Calls.{method_at, entry_duties, call_tests, enter, exit_tests, both_exit_tests, end_thread, way_left, unwound, go_out, resumed, call_ended, return_to, leave, throw_to, throw}
 use Rattle.machine_model.specs.Sharing.{acquired, invariant_of, released, without_cap, lock_made, thread_of, is_started, arguments_from, started, join_is_bounded, joined_thread, joined}
-use Rattle.machine_model.specs.Printing.{values_wanted}
+use Rattle.py_syntax.specs.StmtItems.{values_wanted}
 use Rattle.machine_model.specs.Items.{with_stack, applies_unary, applies_binary, decides, chain_on, links, reads_field, writes_field, writes_under, writes_back, tests_not_nil, calls, class_at, sends, init_name, makes_object, calls_super, makes_lock, makes_thread, last_turn, heads, turns_or_leaves, branches, prints, checks, asserts, returns, goes_further, handles, takes_with, acquires, releases, ends_with, starts, joins, act}
 use Rattle.machine_laws.specs.Growth.{HeapGrows}
 use Rattle.machine_laws.specs.GrowthParts.{Gives, gives, stops, then_gives, past, if_gives, same_heap, heap_with_more, field_grows, owner_grows, Grows, left_at}

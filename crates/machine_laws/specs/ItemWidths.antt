@@ -37,7 +37,7 @@ use Rattle.machine_model.specs.Steps.{entry_of_main, control_step, frames_step, 
 use Rattle.std.specs.Option.{option_map_or, option_and_then}
 use Rattle.py_syntax.specs.declared.Class.{Class}
 use Rattle.machine_model.specs.Duties.{Bound, Capped, is_lower, cap_for, lower_than}
-use Rattle.machine_model.specs.Printing.{values_wanted}
+use Rattle.py_syntax.specs.StmtItems.{values_wanted}
 use Rattle.machine_laws.specs.Widths.{Computed, first_too_large, unless_too_large, StepComputes}
 use Rattle.machine_laws.specs.Computes.{limited, Computes, same, then_computes, behind, sized_computes, if_computes, option_computes, IsNotWide, then_is_not, option_is_not, if_is_not, test_is_not}
 use Rattle.machine_laws.specs.ReadingWidths.{atoms_compute, invariant_computes}
