@@ -38,9 +38,9 @@ last_or_many fits m s all zero = inr (omega arith)
 last_or_many fits m s all (suc k) = elim (last_or_many fits m s all k) as (λ _. ((j : ℕ) × (j ≤ suc k) × IsLast fits m s all j) ⊎ (suc k ≤ passing (held_at fits m s (suc k)) all)) [
   | inl found ↦ let le : found.0 ≤ suc k = omega (arith, found.1) in inl (found.0, le, found.2)
   | inr many ↦ elim (no_more_or_more (held_at fits m s k) (held_at fits m s (suc k)) all (held_deeper fits m s k)) as (λ _. ((j : ℕ) × (j ≤ suc k) × IsLast fits m s all j) ⊎ (suc k ≤ passing (held_at fits m s (suc k)) all)) [
-      | inl none ↦ let le : k ≤ suc k = omega arith in inl (k, le, none.0)
-      | inr more ↦ inr (omega arith)
-    ]
+    | inl none ↦ let le : k ≤ suc k = omega arith in inl (k, le, none.0)
+    | inr more ↦ inr (omega arith)
+  ]
 ]
 
 -- so there is a last depth that is no greater than one more than the number of the instances

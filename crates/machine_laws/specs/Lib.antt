@@ -10,5 +10,6 @@ pub mod DepthBound
 pub mod Growth
 pub mod GrowthParts
 pub mod SceneLaws
+pub mod WholeReadings
 pub mod ItemGrowth
 pub mod RunGrowth

@@ -80,8 +80,8 @@ after_grows s t a left =
     record {
       heap = left.0;
       threads = threads_grow_on s.threads (slice_set s.threads t u) (with_started a.started (slice_set s.threads t u))
-        (thread_changed s.threads t ((left.1).0) u ((left.1).1) ((left.1).2) (ap own_of (left.1).1))
-        (with_start a.started (slice_set s.threads t u));
+          (thread_changed s.threads t ((left.1).0) u ((left.1).1) ((left.1).2) (ap own_of (left.1).1))
+          (with_start a.started (slice_set s.threads t u));
     }
 
 went_grows : (s : State) (t : ℕ) (r : Res After) (a : After) (u : State) → Gives (LeftBy s t) r → settle s t r ≡ Went a u → StateGrows s u
