@@ -1,5 +1,6 @@
 pub mod Widths
 pub mod Computes
+pub mod Examples
 pub mod ReadingWidths
 pub mod DutyWidths
 pub mod ItemWidths
