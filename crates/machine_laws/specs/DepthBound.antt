@@ -1,15 +1,15 @@
 -- Instances at objects hold at no depth that is greater than the room that a reading has.
-use Rattle.std.specs.Prelude.{◌≡◌, ◌⊎◌, ℕ, zero, suc, ◌+◌, ◌≤◌, ◌<◌, Bool, true, false, List, [], All, length, Option, Some, None, slice_get, refl}
+use Rattle.std.specs.Prelude.{◌≡◌, ◌⊎◌, ℕ, zero, suc, ◌+◌, ◌≤◌, Bool, true, false, List, [], length, Option, Some, None, slice_get, refl}
 use Rattle.std.proofs.Common.{ap, ◌∙◌, subst, inl, inr, arith}
 use Rattle.std.proofs.lemmas.List.Elements.{All-nil, All-weaker}
 use Rattle.py_syntax.specs.declared.Value.{Value}
-use Rattle.py_syntax.specs.declared.Instance.{Instance, out-Instance}
+use Rattle.py_syntax.specs.declared.Instance.{out-Instance}
 use Rattle.py_syntax.specs.declared.Pred.{Pred}
 use Rattle.py_syntax.specs.declared.Module.{Module}
 use Rattle.machine_model.specs.Results.{Res, Got, Stops, Width}
 use Rattle.machine_model.specs.Evaluation.{Scene}
 use Rattle.machine_model.specs.Reading.{Opened, within, opens_within, room}
-use Rattle.machine_laws.specs.Depths.{body_holds, holds_at, Holds, instances_of, IsObject, Takes, NamesTaken, StaysAmongObjects}
+use Rattle.machine_laws.specs.Depths.{body_holds, holds_at, Holds, instances_of, Takes, NamesTaken, StaysAmongObjects}
 use Rattle.machine_laws.specs.DepthLaws.{Leads, body_follows, holds_deeper, opens_holds, holds_opens, IsNotHeld}
 use Rattle.machine_laws.specs.Counting.{In, instance, instances_from, count_instances, instance_in, passing, passing_at_most, NoMore, no_more_at, no_more_or_more}
 

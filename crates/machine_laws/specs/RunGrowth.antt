@@ -14,7 +14,7 @@ use Rattle.machine_model.specs.Results.{Res, Got, Stops, then_do, of_option, Wid
 use Rattle.machine_model.specs.Frames.{After}
 use Rattle.machine_model.specs.Steps.{entry_of_main, control_step, frames_step, thread_step, state_step, with_started, own_of, state_after, Stepped, Same, Went, Fails, TooLarge, settle, step, whole, Run, one_of, event_by, run_after, continued, first_run, after}
 use Rattle.machine_laws.specs.Growth.{GoesOn, HeapGrows, ThreadsGrow, StateGrows, Extends}
-use Rattle.machine_laws.specs.GrowthParts.{Gives, gives, stops, past, same_heap, heap_grows_on, Grows}
+use Rattle.machine_laws.specs.GrowthParts.{Gives, stops, past, same_heap, heap_grows_on, Grows}
 use Rattle.machine_laws.specs.ItemGrowth.{act_grows}
 
 -- threads

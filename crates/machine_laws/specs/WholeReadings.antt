@@ -1,5 +1,5 @@
 -- Over whole numbers each reading of a contract has an answer.
-use Rattle.std.specs.Prelude.{◌≡◌, ◌⊎◌, ℕ, zero, suc, Bool, true, false, List, [], ◌∷◌, map, length, Option, Some, None, slice_get, refl, if◌then◌else◌}
+use Rattle.std.specs.Prelude.{◌≡◌, ◌⊎◌, ℕ, zero, suc, Bool, true, false, List, [], ◌∷◌, map, Option, Some, None, slice_get, refl, if◌then◌else◌}
 use Rattle.std.specs.Option.{option_map}
 use Rattle.std.proofs.Common.{sym, ap, subst, inl, inr}
 use Rattle.py_base.specs.declared.Place.{Place}
@@ -12,9 +12,9 @@ use Rattle.py_syntax.specs.declared.Assertion.{Assertion, Assertion-F, roll-Asse
 use Rattle.py_syntax.specs.declared.AtomForm.{AtomForm, AtomForm-F, roll-AtomForm, map-AtomForm, fold-roll-AtomForm}
 use Rattle.py_syntax.specs.declared.Pred.{Pred}
 use Rattle.py_syntax.specs.declared.Module.{Module}
-use Rattle.machine_model.specs.Results.{Res, Got, Stops, then_do, sized}
+use Rattle.machine_model.specs.Results.{Res, Got, Stops, then_do}
 use Rattle.machine_model.specs.Operators.{binary, unary}
-use Rattle.machine_model.specs.Evaluation.{Scene, Reading, defined, undefined, and_with, with_value, of_reference, of_truth, given, not_nil, Meaning, chain_from, form_meaning, meaning}
+use Rattle.machine_model.specs.Evaluation.{Scene, Reading, defined, and_with, with_value, of_reference, of_truth, given, not_nil, Meaning, chain_from, form_meaning, meaning}
 use Rattle.machine_model.specs.Reading.{Miss, Unheld, Verdict, holds, fails_at, and_then, Judge, Judgement, is_true, has_field, values_of, verdict_if, all_hold, opened_at, atom_judgement, judgement, Opened, is_open, within, is_none, opens_within, room, read_assertions}
 use Rattle.machine_model.specs.Steps.{whole}
 use Rattle.machine_laws.specs.ReadingWidths.{of_expr, of_instance, form_read, layer_read, of_assertion, atom_read, layer_judged}

@@ -1,4 +1,4 @@
-use Rattle.std.specs.Prelude.{◌≡◌, pos, Bool, true, false, [], ◌∷◌, None, Some, refl, if◌then◌else◌}
+use Rattle.std.specs.Prelude.{◌≡◌, pos, Bool, true, false, [], None, Some, refl, if◌then◌else◌}
 use Rattle.py_syntax.specs.declared.Value.TheVariants.{Num}
 use Rattle.machine_model.specs.declared.halt.Halt.TheVariants as halt
 use Rattle.machine_model.specs.Results.{Got, Stops, then_do}
