@@ -1,6 +1,6 @@
 -- A run that goes on only adds to its heap, its threads and what it has shown.
-use Rattle.std.specs.Prelude.{◌≡◌, ℕ, zero, suc, Bool, true, false, List, [], ◌∷◌, ◌++◌, Option, Some, None, slice_get, slice_set, refl, if◌then◌else◌}
-use Rattle.std.proofs.Common.{sym, ap, ◌∙◌, subst, append_assoc}
+use Rattle.std.specs.Prelude.{◌≡◌, ℕ, zero, suc, Bool, true, false, List, [], ◌∷◌, ◌++◌, Option, Some, None, slice_get, slice_set, refl, if◌then◌else◌, ◌≤◌, length}
+use Rattle.std.proofs.Common.{sym, ap, ◌∙◌, subst, append_assoc, arith}
 use Rattle.py_syntax.specs.declared.Value.{Value}
 use Rattle.py_syntax.specs.declared.Module.{Module}
 use Rattle.py_syntax.specs.declared.Item.{Item}
@@ -143,3 +143,17 @@ continued_on m r (t ∷ xs) ys = continued_on m (run_after r t (step whole m r.s
 -- a run with more steps extends the run so far
 pub after_extends : (m : Module) (list more : List ℕ) → Extends (after m list) (after m (list ++ more))
 after_extends m list more = subst (Extends (after m list)) (continued_on m (first_run m) list more) (continued_extends m (after m list) more)
+
+-- what a thread is once the threads have grown
+pub threads_length : (a b : List ThreadState) → ThreadsGrow a b → length a ≤ length b
+threads_length [] b h = omega arith
+threads_length (x ∷ xs) [] h = absurd h
+threads_length (x ∷ xs) (y ∷ ys) h = omega (arith, threads_length xs ys h.2)
+
+pub thread_stays : (a b : List ThreadState) (t : ℕ) (th : ThreadState) → ThreadsGrow a b → slice_get a t ≡ Some th → (u : ThreadState) × (slice_get b t ≡ Some u) × (u.own ≡ th.own) × (th.ended ≡ true → u.ended ≡ true)
+thread_stays [] b t th h is = cc
+thread_stays (x ∷ xs) [] t th h is = absurd h
+thread_stays (x ∷ xs) (y ∷ ys) zero th h is =
+    let same : x ≡ th = cc in
+    (y, refl, h.0 ∙ ap (λ (z : ThreadState). z.own) same, (λ e. h.1 (ap (λ (z : ThreadState). z.ended) same ∙ e)))
+thread_stays (x ∷ xs) (y ∷ ys) (suc t) th h is = thread_stays xs ys t th h.2 is
