@@ -1,15 +1,15 @@
 -- Instances at objects hold at no depth that is greater than the room that a reading has.
-use Rattle.std.specs.Prelude.{◌≡◌, ◌⊎◌, ℕ, zero, suc, ◌+◌, ◌≤◌, ◌<◌, Bool, true, false, List, [], All, length, Option, Some, None, slice_get, refl}
+use Rattle.std.specs.Prelude.{◌≡◌, ◌⊎◌, ℕ, zero, suc, ◌+◌, ◌≤◌, Bool, true, false, List, [], length, Option, Some, None, slice_get, refl}
 use Rattle.std.proofs.Common.{ap, ◌∙◌, subst, inl, inr, arith}
 use Rattle.std.proofs.lemmas.List.Elements.{All-nil, All-weaker}
 use Rattle.py_syntax.specs.declared.Value.{Value}
-use Rattle.py_syntax.specs.declared.Instance.{Instance, out-Instance}
+use Rattle.py_syntax.specs.declared.Instance.{out-Instance}
 use Rattle.py_syntax.specs.declared.Pred.{Pred}
 use Rattle.py_syntax.specs.declared.Module.{Module}
 use Rattle.machine_model.specs.Results.{Res, Got, Stops, Width}
 use Rattle.machine_model.specs.Evaluation.{Scene}
 use Rattle.machine_model.specs.Reading.{Opened, within, opens_within, room}
-use Rattle.machine_laws.specs.Depths.{body_holds, holds_at, Holds, instances_of, IsObject, Takes, NamesTaken, StaysAmongObjects}
+use Rattle.machine_laws.specs.Depths.{body_holds, holds_at, Holds, instances_of, Takes, NamesTaken, StaysAmongObjects}
 use Rattle.machine_laws.specs.DepthLaws.{Leads, body_follows, holds_deeper, opens_holds, holds_opens, IsNotHeld}
 use Rattle.machine_laws.specs.Counting.{In, instance, instances_from, count_instances, instance_in, passing, passing_at_most, NoMore, no_more_at, no_more_or_more}
 
@@ -38,9 +38,9 @@ last_or_many fits m s all zero = inr (omega arith)
 last_or_many fits m s all (suc k) = elim (last_or_many fits m s all k) as (λ _. ((j : ℕ) × (j ≤ suc k) × IsLast fits m s all j) ⊎ (suc k ≤ passing (held_at fits m s (suc k)) all)) [
   | inl found ↦ let le : found.0 ≤ suc k = omega (arith, found.1) in inl (found.0, le, found.2)
   | inr many ↦ elim (no_more_or_more (held_at fits m s k) (held_at fits m s (suc k)) all (held_deeper fits m s k)) as (λ _. ((j : ℕ) × (j ≤ suc k) × IsLast fits m s all j) ⊎ (suc k ≤ passing (held_at fits m s (suc k)) all)) [
-      | inl none ↦ let le : k ≤ suc k = omega arith in inl (k, le, none.0)
-      | inr more ↦ inr (omega arith)
-    ]
+    | inl none ↦ let le : k ≤ suc k = omega arith in inl (k, le, none.0)
+    | inr more ↦ inr (omega arith)
+  ]
 ]
 
 -- so there is a last depth that is no greater than one more than the number of the instances

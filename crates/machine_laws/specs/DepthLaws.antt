@@ -1,12 +1,11 @@
 -- An instance that holds at a depth holds at each greater one, and the reading by a path of open instances gives the same.
-use Rattle.std.specs.Prelude.{◌≡◌, ◌⊎◌, ℕ, zero, suc, ◌≤◌, Bool, true, false, ◌&&◌, ◌||◌, List, [], ◌∷◌, ◌++◌, map, All, length, Option, Some, None, slice_get, nat_eq, refl, if◌then◌else◌}
-use Rattle.std.specs.List.{list_any}
+use Rattle.std.specs.Prelude.{◌≡◌, ◌⊎◌, ℕ, zero, suc, ◌≤◌, Bool, true, false, ◌&&◌, ◌||◌, List, [], ◌∷◌, ◌++◌, map, All, Option, Some, None, slice_get, nat_eq, refl, if◌then◌else◌}
 use Rattle.std.proofs.Common.{sym, ap, ◌∙◌, subst, inl, inr, arith}
 use Rattle.std.proofs.lemmas.List.Elements.{All-nil, All-cons, All-head, All-tail, All-weaker}
 use Rattle.std.proofs.lemmas.Bool.Decides.{nat_tests}
 use Rattle.py_base.specs.declared.Place.{Place}
 use Rattle.py_syntax.specs.declared.Value.{Value}
-use Rattle.py_syntax.specs.declared.Value.TheVariants.{Num, Truth, Nil, Ref}
+use Rattle.py_syntax.specs.declared.Value.TheVariants.{Nil, Ref}
 use Rattle.py_syntax.specs.declared.Instance.{Instance, out-Instance}
 use Rattle.py_syntax.specs.declared.Assertion.{Assertion, Assertion-F, roll-Assertion, map-Assertion, fold-roll-Assertion, ind-Assertion}
 use Rattle.py_syntax.specs.declared.AtomForm.{AtomForm, AtomForm-F, roll-AtomForm, map-AtomForm, fold-AtomForm, fold-roll-AtomForm}
@@ -14,7 +13,7 @@ use Rattle.py_syntax.specs.declared.Pred.{Pred}
 use Rattle.py_syntax.specs.declared.Module.{Module}
 use Rattle.machine_model.specs.Results.{Res, Got, Stops, then_do, Width}
 use Rattle.machine_model.specs.Evaluation.{Scene, meaning}
-use Rattle.machine_model.specs.Reading.{Miss, Verdict, holds, and_then, Judge, Judgement, is_true, values_of, verdict_if, all_hold, opened_at, atom_judgement, judgement, Opened, same_value, same_values, is_open, within, is_none, opens_within}
+use Rattle.machine_model.specs.Reading.{Verdict, holds, and_then, Judge, Judgement, is_true, values_of, verdict_if, all_hold, opened_at, atom_judgement, judgement, Opened, same_value, same_values, is_open, within, is_none, opens_within}
 use Rattle.machine_laws.specs.ReadingWidths.{of_assertion, atom_read, layer_judged}
 use Rattle.machine_laws.specs.Depths.{Opens, body_holds, holds_at, joined, atom_instances, instances_of}
 

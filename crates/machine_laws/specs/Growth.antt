@@ -1,5 +1,5 @@
 -- How the states of a run go on: the heap and the threads only grow, and so does what the run has shown.
-use Rattle.std.specs.Prelude.{◌≡◌, Bool, true, List, [], ◌∷◌, ◌++◌, Option, Some, None}
+use Rattle.std.specs.Prelude.{◌≡◌, true, List, [], ◌∷◌, ◌++◌, Option, Some, None}
 use Rattle.machine_model.specs.declared.state.Object.{Object}
 use Rattle.machine_model.specs.declared.state.LockState.{LockState}
 use Rattle.machine_model.specs.declared.state.ThreadState.{ThreadState}

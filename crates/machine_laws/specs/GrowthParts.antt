@@ -1,8 +1,8 @@
 -- Parts of the growth of heaps.
-use Rattle.std.specs.Prelude.{◌≡◌, ℕ, zero, suc, Bool, true, false, List, [], ◌∷◌, ◌++◌, Option, Some, None, slice_get, slice_set, refl, if◌then◌else◌}
+use Rattle.std.specs.Prelude.{◌≡◌, ℕ, zero, suc, Bool, true, false, List, [], ◌∷◌, ◌++◌, Option, Some, None, slice_get, slice_set, refl, if◌then◌else◌, ◌≤◌, length}
 use Rattle.std.specs.Option.{option_map, option_and_then}
 use Rattle.std.specs.FinMap as map
-use Rattle.std.proofs.Common.{sym, ap, ◌∙◌, subst}
+use Rattle.std.proofs.Common.{sym, ap, ◌∙◌, subst, arith}
 use Rattle.py_syntax.specs.declared.Value.{Value}
 use Rattle.machine_model.specs.declared.state.Object.{Object}
 use Rattle.machine_model.specs.declared.state.LockState.{LockState}
@@ -103,3 +103,17 @@ Grows heap r = Gives (λ (a : After). HeapGrows heap a.heap) r
 
 pub left_at : (base : List Object) (a : After) → HeapGrows base a.heap → Grows base (Got a)
 left_at base a h = gives (λ (a : After). HeapGrows base a.heap) a h
+
+-- what a grown heap is at a reference
+pub heap_length : (a b : List Object) → HeapGrows a b → length a ≤ length b
+heap_length [] b h = omega arith
+heap_length (o ∷ os) [] h = absurd h
+heap_length (o ∷ os) (p ∷ ps) h = omega (arith, heap_length os ps h.2)
+
+pub object_stays : (a b : List Object) (r : ℕ) (o : Object) → HeapGrows a b → slice_get a r ≡ Some o → (p : Object) × (slice_get b r ≡ Some p) × (p.class ≡ o.class) × StaysLock o.lock p.lock
+object_stays [] b r o h is = cc
+object_stays (x ∷ xs) [] r o h is = absurd h
+object_stays (x ∷ xs) (y ∷ ys) zero o h is =
+    let same : x ≡ o = cc in
+    (y, refl, h.0 ∙ ap (λ (z : Object). z.class) same, subst (λ (z : Object). StaysLock z.lock y.lock) same h.1)
+object_stays (x ∷ xs) (y ∷ ys) (suc r) o h is = object_stays xs ys r o h.2 is

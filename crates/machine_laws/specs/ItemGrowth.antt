@@ -1,5 +1,5 @@
 -- Each item leaves a heap that has grown.
-use Rattle.std.specs.Prelude.{◌≡◌, ℕ, ℤ, Bool, true, false, not, ◌&&◌, List, [], ◌∷◌, ◌++◌, map as each, length, Option, Some, None, slice_get, nat_eq, if◌then◌else◌}
+use Rattle.std.specs.Prelude.{ℕ, ℤ, Bool, true, false, not, ◌&&◌, List, [], ◌∷◌, ◌++◌, map as each, length, Option, Some, None, slice_get, nat_eq, if◌then◌else◌}
 use Rattle.std.specs.Option.{option_map_or}
 use Rattle.std.specs.FinMap as map
 use Rattle.py_base.specs.declared.Place.{Place}
@@ -9,7 +9,6 @@ use Rattle.py_syntax.specs.declared.Value.TheVariants.{Num, Truth, Nil, Ref}
 use Rattle.py_syntax.specs.declared.Expr.{Expr}
 use Rattle.py_syntax.specs.declared.Stmt.{Stmt}
 use Rattle.py_syntax.specs.declared.Assertion.{Assertion}
-use Rattle.py_syntax.specs.declared.PrintArg.{PrintArg}
 use Rattle.py_syntax.specs.declared.Method.{Method}
 use Rattle.py_syntax.specs.declared.Module.{Module}
 use Rattle.py_syntax.specs.declared.Way.{Way}
@@ -34,7 +33,7 @@ use Rattle.machine_model.specs.Frames.{After, operand, pop_value, pop_truth, pop
 use Rattle.machine_model.specs.Calls.{method_at, entry_duties, call_tests, enter, exit_tests, both_exit_tests, end_thread, way_left, unwound, go_out, resumed, call_ended, return_to, leave, throw_to, throw}
 use Rattle.machine_model.specs.Sharing.{acquired, invariant_of, released, without_cap, lock_made, thread_of, is_started, arguments_from, started, join_is_bounded, joined_thread, joined}
 use Rattle.py_syntax.specs.StmtItems.{values_wanted}
-use Rattle.machine_model.specs.Items.{with_stack, applies_unary, applies_binary, decides, chain_on, links, reads_field, writes_field, writes_under, writes_back, tests_not_nil, calls, class_at, sends, init_name, makes_object, calls_super, makes_lock, makes_thread, last_turn, heads, turns_or_leaves, branches, prints, checks, asserts, returns, goes_further, handles, takes_with, acquires, releases, ends_with, starts, joins, act}
+use Rattle.machine_model.specs.Items.{with_stack, applies_unary, applies_binary, decides, chain_on, links, reads_field, writes_field, writes_under, writes_back, tests_not_nil, calls, class_at, sends, init_name, makes_object, calls_super, makes_lock, makes_thread, last_turn, heads, turns_or_leaves, asserts, returns, goes_further, handles, takes_with, acquires, releases, ends_with, starts, joins, act}
 use Rattle.machine_laws.specs.Growth.{HeapGrows}
 use Rattle.machine_laws.specs.GrowthParts.{Gives, gives, stops, then_gives, past, if_gives, same_heap, heap_with_more, field_grows, owner_grows, Grows, left_at}
 

@@ -1,5 +1,6 @@
 pub mod Widths
 pub mod Computes
+pub mod Examples
 pub mod ReadingWidths
 pub mod DutyWidths
 pub mod ItemWidths
@@ -10,5 +11,6 @@ pub mod DepthBound
 pub mod Growth
 pub mod GrowthParts
 pub mod SceneLaws
+pub mod WholeReadings
 pub mod ItemGrowth
 pub mod RunGrowth

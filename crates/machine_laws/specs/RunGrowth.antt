@@ -1,6 +1,6 @@
 -- A run that goes on only adds to its heap, its threads and what it has shown.
-use Rattle.std.specs.Prelude.{◌≡◌, ℕ, zero, suc, Bool, true, false, List, [], ◌∷◌, ◌++◌, Option, Some, None, slice_get, slice_set, refl, if◌then◌else◌}
-use Rattle.std.proofs.Common.{sym, ap, ◌∙◌, subst, append_assoc}
+use Rattle.std.specs.Prelude.{◌≡◌, ℕ, zero, suc, Bool, true, false, List, [], ◌∷◌, ◌++◌, Option, Some, None, slice_get, slice_set, refl, if◌then◌else◌, ◌≤◌, length}
+use Rattle.std.proofs.Common.{sym, ap, ◌∙◌, subst, append_assoc, arith}
 use Rattle.py_syntax.specs.declared.Value.{Value}
 use Rattle.py_syntax.specs.declared.Module.{Module}
 use Rattle.py_syntax.specs.declared.Item.{Item}
@@ -14,7 +14,7 @@ use Rattle.machine_model.specs.Results.{Res, Got, Stops, then_do, of_option, Wid
 use Rattle.machine_model.specs.Frames.{After}
 use Rattle.machine_model.specs.Steps.{entry_of_main, control_step, frames_step, thread_step, state_step, with_started, own_of, state_after, Stepped, Same, Went, Fails, TooLarge, settle, step, whole, Run, one_of, event_by, run_after, continued, first_run, after}
 use Rattle.machine_laws.specs.Growth.{GoesOn, HeapGrows, ThreadsGrow, StateGrows, Extends}
-use Rattle.machine_laws.specs.GrowthParts.{Gives, gives, stops, past, same_heap, heap_grows_on, Grows}
+use Rattle.machine_laws.specs.GrowthParts.{Gives, stops, past, same_heap, heap_grows_on, Grows}
 use Rattle.machine_laws.specs.ItemGrowth.{act_grows}
 
 -- threads
@@ -80,8 +80,8 @@ after_grows s t a left =
     record {
       heap = left.0;
       threads = threads_grow_on s.threads (slice_set s.threads t u) (with_started a.started (slice_set s.threads t u))
-        (thread_changed s.threads t ((left.1).0) u ((left.1).1) ((left.1).2) (ap own_of (left.1).1))
-        (with_start a.started (slice_set s.threads t u));
+          (thread_changed s.threads t ((left.1).0) u ((left.1).1) ((left.1).2) (ap own_of (left.1).1))
+          (with_start a.started (slice_set s.threads t u));
     }
 
 went_grows : (s : State) (t : ℕ) (r : Res After) (a : After) (u : State) → Gives (LeftBy s t) r → settle s t r ≡ Went a u → StateGrows s u
@@ -143,3 +143,17 @@ continued_on m r (t ∷ xs) ys = continued_on m (run_after r t (step whole m r.s
 -- a run with more steps extends the run so far
 pub after_extends : (m : Module) (list more : List ℕ) → Extends (after m list) (after m (list ++ more))
 after_extends m list more = subst (Extends (after m list)) (continued_on m (first_run m) list more) (continued_extends m (after m list) more)
+
+-- what a thread is once the threads have grown
+pub threads_length : (a b : List ThreadState) → ThreadsGrow a b → length a ≤ length b
+threads_length [] b h = omega arith
+threads_length (x ∷ xs) [] h = absurd h
+threads_length (x ∷ xs) (y ∷ ys) h = omega (arith, threads_length xs ys h.2)
+
+pub thread_stays : (a b : List ThreadState) (t : ℕ) (th : ThreadState) → ThreadsGrow a b → slice_get a t ≡ Some th → (u : ThreadState) × (slice_get b t ≡ Some u) × (u.own ≡ th.own) × (th.ended ≡ true → u.ended ≡ true)
+thread_stays [] b t th h is = cc
+thread_stays (x ∷ xs) [] t th h is = absurd h
+thread_stays (x ∷ xs) (y ∷ ys) zero th h is =
+    let same : x ≡ th = cc in
+    (y, refl, h.0 ∙ ap (λ (z : ThreadState). z.own) same, (λ e. h.1 (ap (λ (z : ThreadState). z.ended) same ∙ e)))
+thread_stays (x ∷ xs) (y ∷ ys) (suc t) th h is = thread_stays xs ys t th h.2 is

@@ -1,5 +1,5 @@
 -- What is read in a scene whose fields name the first so many objects alone is so too.
-use Rattle.std.specs.Prelude.{◌≡◌, ℕ, zero, suc, ◌<◌, ℤ, pos, Bool, true, false, not, List, [], ◌∷◌, map, All, length, Option, Some, None, slice_get, nat_eq, refl, if◌then◌else◌}
+use Rattle.std.specs.Prelude.{◌≡◌, ℕ, zero, suc, ℤ, pos, Bool, true, false, List, [], ◌∷◌, map, All, length, Option, Some, None, slice_get, nat_eq, refl, if◌then◌else◌}
 use Rattle.std.specs.Option.{option_map, option_and_then}
 use Rattle.std.proofs.Common.{sym, ap, ◌∙◌, subst}
 use Rattle.std.proofs.lemmas.List.Elements.{All-nil, All-cons, All-head, All-tail, All-weaker}
@@ -9,15 +9,14 @@ use Rattle.py_syntax.specs.declared.Value.TheVariants.{Num, Truth, Nil, Ref}
 use Rattle.py_syntax.specs.declared.Expr.{Expr, Expr-F, roll-Expr, map-Expr, fold-roll-Expr, ind-Expr}
 use Rattle.py_syntax.specs.declared.ExprForm.{ExprForm, ExprForm-F, roll-ExprForm, map-ExprForm, fold-roll-ExprForm}
 use Rattle.py_syntax.specs.declared.Instance.{Instance, out-Instance}
-use Rattle.py_syntax.specs.declared.Pred.{Pred}
 use Rattle.py_syntax.specs.declared.Module.{Module}
 use Rattle.machine_model.specs.declared.halt.Halt.TheVariants as halt
 use Rattle.machine_model.specs.Results.{Res, Got, Stops, then_do, Width, sized}
 use Rattle.machine_model.specs.Operators.{int_eq, floor_div, floor_mod, on_numbers, on_truths, on_references, binary, unary}
-use Rattle.machine_model.specs.Evaluation.{Scene, Reading, defined, undefined, and_with, with_value, of_reference, of_truth, given, Meaning, chain_from, chain_of, not_nil, form_meaning, meaning}
+use Rattle.machine_model.specs.Evaluation.{Scene, Reading, defined, undefined, and_with, with_value, of_reference, of_truth, given, Meaning, chain_from, not_nil, form_meaning, meaning}
 use Rattle.machine_model.specs.Reading.{values_of, within}
 use Rattle.machine_laws.specs.ReadingWidths.{of_expr, of_instance, form_read, layer_read}
-use Rattle.machine_laws.specs.Depths.{instances_of, IsObject, Takes, NamesTaken, StaysAmongObjects, IsBelow, IsBelowIfAny, IsOver, IsReference, NamesReferences, BodiesNameReferences}
+use Rattle.machine_laws.specs.Depths.{instances_of, IsObject, NamesTaken, StaysAmongObjects, IsBelow, IsBelowIfAny, IsOver, IsReference, NamesReferences, BodiesNameReferences}
 use Rattle.machine_laws.specs.GrowthParts.{Gives, gives, then_gives}
 
 -- a scene whose locals and result are so too

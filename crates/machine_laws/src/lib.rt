@@ -3,4 +3,7 @@
 
 mod laws;
 
-pub use laws::{a_scene_over_objects_stays_among_them, a_width_changes_nothing_else, more_depth_keeps_what_holds, reading_finds_what_holds, runs_only_grow};
+pub use laws::{
+    a_scene_over_objects_stays_among_them, a_sum_computes_its_value, a_width_changes_nothing_else,
+    more_depth_keeps_what_holds, reading_finds_what_holds, readings_have_answers, runs_only_grow,
+};
