@@ -7,12 +7,14 @@ mod given;
 mod levels;
 mod numbers;
 mod parts;
+mod solving;
 mod stop;
 mod sums;
 mod variables;
 
 pub use elimination::{Eliminated, eliminate_all};
 pub use levels::Level;
+pub use solving::{Solved, solve};
 
 #[cfg(test)]
 mod tests;
