@@ -3,14 +3,19 @@
 #![tactic(auto)]
 
 mod elimination;
+mod extension;
+mod fractions;
 mod given;
 mod levels;
 mod numbers;
 mod parts;
+mod room;
 mod solving;
 mod stop;
 mod sums;
 mod variables;
+mod way_back;
+mod worst;
 
 pub use elimination::{Eliminated, eliminate_all};
 pub use levels::Level;
