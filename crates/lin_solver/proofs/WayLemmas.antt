@@ -107,4 +107,4 @@ rooms_together rows steps p v i j a b above below (next, covered, met) at_above 
     let (k, l, low, total) = subst (λ c. IsElimination v a c r) same_b (subst (λ c. IsElimination v c b' r) same_a is) in
     let here = one_row rows steps (IsMetAt p) n r at (All-contains (HasRow rows steps (IsMetAt p)) next n met there) in
     let none : HasNoneBelow (v + 1) r = derived-below rows (v + 1) r (summed v a b r d.0 g.0 d.1 g.1 (k, l, low, total)) in
-    (k, l, low.cancels.left, low.cancels.right, low.cancels.none, subst (λ z. pos 0 ≤ℤ z) (room_sum p.q (valuation p.values) v k l a b r total) (some_room p.q (valuation p.values) v r none here))
+    (k, l, low.cancels.left, low.cancels.right, low.cancels.none, subst (λ z. pos 0 ≤ℤ z) {y = k *ℤ room p a v +ℤ l *ℤ room p b v} (room_sum p.q (valuation p.values) v k l a b r total) (some_room p.q (valuation p.values) v r none here))
