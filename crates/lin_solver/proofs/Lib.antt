@@ -3,3 +3,15 @@ mod StepLemmas
 mod VariableLemmas
 mod PartLemmas
 mod LevelLemmas
+mod FractionLemmas
+mod RoomLemmas
+mod DivisorLemmas
+mod PointLemmas
+mod BoundLemmas
+mod WayLemmas
+mod RestLemmas
+mod WideLemmas
+mod LowestLemmas
+mod WorstLemmas
+mod MoveLemmas
+mod DescentLemmas

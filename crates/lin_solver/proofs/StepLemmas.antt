@@ -10,10 +10,10 @@ use Rattle.lin_rows.specs.declared.row.Row.{Row}
 use Rattle.lin_rows.specs.declared.step.ComboStep.{ComboStep}
 use Rattle.lin_rows.specs.Terms.{coef_at}
 use Rattle.lin_rows.specs.Derived.{Derived, given, summed}
-use Rattle.lin_rows.specs.Steps.{StepHolds, StepsHold, IsFalse}
+use Rattle.lin_rows.specs.Steps.{StepHolds, StepsHold}
 use Rattle.lin_rows.specs.StepLaws.{steps-push}
 use Rattle.lin_rows.specs.TermLaws.{at_or_not}
-use Rattle.lin_solver.specs.Numbers.{numbered, HasRow, IsLive, BoundsAbove, BoundsBelow, IsSumOf, IsCovered, AreCovered, IsPrefix}
+use Rattle.lin_solver.specs.Numbers.{numbered, HasRow, MayBeMet, IsLive, BoundsAbove, BoundsBelow, IsSumOf, IsCovered, AreCovered, IsPrefix}
 use Rattle.lin_solver.proofs.NumberLemmas.{get_within, get_back, one_row, at_given, at_step, at_grows}
 
 -- the steps hold with one more
@@ -41,7 +41,7 @@ sum_grows rows old new v i j r p (a, e, (b, f, sum)) =
     (a, at_grows rows old new i a p e, (b, at_grows rows old new j b p f, sum))
 
 -- the last step's number is that of a live row
-pub step_live : (rows : List Row) (old new : List ComboStep) (s : ComboStep) (v i j n : ℕ) → new ≡ old ++ s ∷ [] → n ≡ length rows + length old → HasRow rows old (BoundsAbove rows v) i → HasRow rows old (BoundsBelow rows v) j → IsSumOf rows old v i j s.row → ¬ (IsFalse s.row) → HasRow rows new (IsLive rows (v + 1)) n
+pub step_live : (rows : List Row) (old new : List ComboStep) (s : ComboStep) (v i j n : ℕ) → new ≡ old ++ s ∷ [] → n ≡ length rows + length old → HasRow rows old (BoundsAbove rows v) i → HasRow rows old (BoundsBelow rows v) j → IsSumOf rows old v i j s.row → MayBeMet s.row → HasRow rows new (IsLive rows (v + 1)) n
 step_live rows old new s v i j n is at above below sum true_ =
     (s.row, at_last rows old new s n is at, (sum_derived rows old v i j s.row above below sum, true_))
 
@@ -103,7 +103,7 @@ false_holds lower i r e none fits = record {
 }
 
 -- a row handed in is live before the first variable
-pub given_live : (rows : List Row) (steps : List ComboStep) (i : ℕ) (r : Row) → slice_get rows i ≡ Some r → ¬ (IsFalse r) → HasRow rows steps (IsLive rows 0) i
+pub given_live : (rows : List Row) (steps : List ComboStep) (i : ℕ) (r : Row) → slice_get rows i ≡ Some r → MayBeMet r → HasRow rows steps (IsLive rows 0) i
 given_live rows steps i r e true_ =
     (r, at_given rows steps i r e, (given r (i, get_within rows i r e, get_or_from_slice_get rows i r r e), true_))
 

@@ -1,11 +1,11 @@
 -- The numbers of rows, and what is said of the rows that have them.
-use Rattle.std.specs.Prelude.{◌≡◌, ℕ, pos, ◌<ℤ◌, List, ◌++◌, Option, Some, map, slice_get, All, Contains}
+use Rattle.std.specs.Prelude.{◌≡◌, ◌≢◌, ℕ, pos, ◌<ℤ◌, ◌≤ℤ◌, List, ◌++◌, Option, Some, map, slice_get, All, Contains}
 use Rattle.lin_rows.specs.declared.row.Row.{Row}
 use Rattle.lin_rows.specs.declared.step.ComboStep.{ComboStep}
 use Rattle.lin_rows.specs.Terms.{coef_at}
 use Rattle.lin_rows.specs.Lowest.{IsElimination}
 use Rattle.lin_rows.specs.Derived.{Derived}
-use Rattle.lin_rows.specs.Steps.{all_rows, IsFalse}
+use Rattle.lin_rows.specs.Steps.{all_rows}
 
 -- the rows handed in, and then those of the steps
 abbrev pub numbered : List Row → List ComboStep → List (Option Row)
@@ -19,9 +19,17 @@ HasRow rows steps P i = (r : Row) × (slice_get (numbered rows steps) i ≡ Some
 abbrev pub HaveRows : List Row → List ComboStep → (Row → Type 0) → List ℕ → Type 0
 HaveRows rows steps P is = All (HasRow rows steps P) is
 
+-- where the row has no variable, its bound isn't negative
+abbrev pub MayBeMet : Row → Type 0
+MayBeMet r = ((v : ℕ) → coef_at r.coefs v ≡ pos 0) → pos 0 ≤ℤ r.bound
+
 -- a row derived before `v` that may be met
 abbrev pub IsLive : List Row → ℕ → Row → Type 0
-IsLive rows v r = Derived rows v r × ¬ (IsFalse r)
+IsLive rows v r = Derived rows v r × MayBeMet r
+
+-- one that has `v`, and so bounds it
+abbrev pub Bounds : List Row → ℕ → Row → Type 0
+Bounds rows v r = Derived rows v r × (coef_at r.coefs v ≢ pos 0)
 
 -- one that has `v` with a positive coefficient, and so bounds it from above
 abbrev pub BoundsAbove : List Row → ℕ → Row → Type 0

@@ -2,17 +2,23 @@
 //! them all.
 #![tactic(auto)]
 
-mod elimination;
+mod extension;
+mod fractions;
 mod given;
+mod laws;
 mod levels;
 mod numbers;
 mod parts;
+mod room;
+mod solving;
 mod stop;
 mod sums;
 mod variables;
+mod way_back;
+mod worst;
 
-pub use elimination::{Eliminated, eliminate_all};
-pub use levels::Level;
+pub use laws::combinations_exclude_points;
+pub use solving::{Solved, solve};
 
 #[cfg(test)]
 mod tests;

@@ -6,7 +6,7 @@ ghost use Rattle.lin_rows.specs.Lowest.{IsLowest, IsWideElimination};
 ghost use Rattle.lin_rows.specs.Steps.{IsFalse, StepHolds, StepsHold};
 ghost use Rattle.lin_rows.specs.WidePoints.{IsWidePair};
 ghost use Rattle.lin_rows.specs.declared.fault.RowFault.TheVariants.{Wide};
-ghost use Rattle.lin_solver.specs.Numbers.{numbered, HasRow, HaveRows, IsLive, BoundsAbove, BoundsBelow, IsSumOf, IsCovered, AreCovered, IsPrefix};
+ghost use Rattle.lin_solver.specs.Numbers.{numbered, HasRow, HaveRows, MayBeMet, IsLive, BoundsAbove, BoundsBelow, IsSumOf, IsCovered, AreCovered, IsPrefix};
 ghost use Rattle.lin_solver.specs.Stops.{IsStop};
 
 use crate::numbers::{next_number, row_at};
@@ -66,7 +66,8 @@ fn stop_at(
 
 /// The row says that 0 is at most a negative number.
 pub fn is_false(row: &Row) -> bool
-    ensures { IsTrue result ↔ IsFalse row.now }
+    ensures is { IsTrue result ↔ IsFalse row.now }
+    ensures may { ¬ (IsTrue result) → MayBeMet row.now }
 {
     row.coefs.as_slice().is_empty() && row.bound < 0
 }

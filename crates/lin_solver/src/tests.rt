@@ -30,22 +30,41 @@ fn row(alloc: Global, terms: &[(u32, i128)], bound: i128) -> Result<Row, RowFaul
 enum Answer {
     // the number of steps and the bound of the last
     Combination(usize, i128),
-    // the numbers of steps and of levels
-    Levels(usize, usize),
-    // the variable
+    // the unit and the values of the first three variables
+    Point(i128, [i128; 3]),
+    // the variables of wide points
     Pair(u32),
+    Bound(u32),
     Other,
 }
 
-fn kind_of(eliminated: &Eliminated) -> Answer {
-    match eliminated {
-        Eliminated::Combination(steps) => match steps.as_slice() {
+fn value_of(values: &[(u32, i128)], var: u32) -> i128 {
+    for (v, value) in values {
+        if *v == var {
+            return *value;
+        }
+    }
+    0
+}
+
+fn kind_of(solved: &Solved) -> Answer {
+    match solved {
+        Solved::Combination(steps) => match steps.as_slice() {
             [.., last] => Answer::Combination(steps.len(), last.row.bound),
             [] => Answer::Other,
         },
-        Eliminated::Levels(steps, levels) => Answer::Levels(steps.len(), levels.len()),
-        Eliminated::Wide(WidePoint::Pair(_, _, var)) => Answer::Pair(*var),
-        Eliminated::Wide(_) => Answer::Other,
+        Solved::Point(point) => {
+            let values = point.values.as_slice();
+            let first = [
+                value_of(values, 0),
+                value_of(values, 1),
+                value_of(values, 2),
+            ];
+            Answer::Point(point.q, first)
+        }
+        Solved::Wide(WidePoint::Pair(_, _, var)) => Answer::Pair(*var),
+        Solved::Wide(WidePoint::Bound(_, _, var)) => Answer::Bound(*var),
+        Solved::Wide(_) => Answer::Other,
     }
 }
 
@@ -56,20 +75,20 @@ fn answer_of(alloc: Global, given: &[([i128; 3], i128)]) -> Option<Answer> {
         let terms = [(0, coefs[0]), (1, coefs[1]), (2, coefs[2])];
         rows.push(row(alloc, terms.as_slice(), *bound).ok()?).ok()?;
     }
-    if rows.len() as u128 >= 1 << 32 {
-        return None;
-    }
-    let eliminated = eliminate_all(alloc, rows.as_slice()).ok()?;
-    Some(kind_of(&eliminated))
+    let solved = solve(alloc, rows.as_slice()).ok()?;
+    Some(kind_of(&solved))
 }
 
 // A row without terms that is always met.
 const NONE: ([i128; 3], i128) = ([0, 0, 0], 0);
 
 #[test]
-fn rows_are_refuted_or_eliminated(rt: HostRuntime) -> Result<(), Fail> {
+fn rows_are_refuted_or_met(rt: HostRuntime) -> Result<(), Fail> {
     let alloc = rt.alloc();
-    assert_eq!(rt; answer_of(alloc, [].as_slice()), Some(Answer::Levels(0, 0)));
+    assert_eq!(rt;
+        answer_of(alloc, [].as_slice()),
+        Some(Answer::Point(1, [0, 0, 0]))
+    );
     for (name, rows, wanted) in [
         (
             "0 or less, and 1 or more",
@@ -79,12 +98,12 @@ fn rows_are_refuted_or_eliminated(rt: HostRuntime) -> Result<(), Fail> {
         (
             "0 or less",
             [([1, 0, 0], 0), NONE, NONE, NONE],
-            Answer::Levels(0, 1),
+            Answer::Point(1, [0, 0, 0]),
         ),
         (
             "no terms, bound 0",
             [NONE, NONE, NONE, NONE],
-            Answer::Levels(0, 0),
+            Answer::Point(1, [0, 0, 0]),
         ),
         (
             "no terms, bound -1",
@@ -92,9 +111,14 @@ fn rows_are_refuted_or_eliminated(rt: HostRuntime) -> Result<(), Fail> {
             Answer::Combination(1, -1),
         ),
         (
-            "equal rows",
+            "equal rows and their opposite",
             [([-1, 0, 2], 3), ([-1, 0, 2], 3), ([1, 0, -2], -4), NONE],
             Answer::Combination(1, -1),
+        ),
+        (
+            "equal rows",
+            [([-1, 0, 2], -3), ([-1, 0, 2], -3), NONE, NONE],
+            Answer::Point(1, [3, 0, 0]),
         ),
         (
             "the greatest number and its opposite",
@@ -102,19 +126,39 @@ fn rows_are_refuted_or_eliminated(rt: HostRuntime) -> Result<(), Fail> {
             Answer::Combination(1, -1),
         ),
         (
-            "the least number",
-            [([MIN, 0, 0], 0), ([1, 0, 0], 0), NONE, NONE],
-            Answer::Pair(0),
+            "the greatest number as a bound too",
+            [([MAX, 0, 0], MAX), ([-MAX, 0, 0], -MAX), NONE, NONE],
+            Answer::Point(1, [1, 0, 0]),
+        ),
+        (
+            "the least number as a coefficient and a bound",
+            [([MIN, 0, 0], MIN), NONE, NONE, NONE],
+            Answer::Point(1, [1, 0, 0]),
+        ),
+        (
+            "the least number or less",
+            [([1, 0, 0], MIN), NONE, NONE, NONE],
+            Answer::Point(1, [MIN, 0, 0]),
         ),
         (
             "a half",
             [([2, 0, 0], 1), ([-2, 0, 0], -1), NONE, NONE],
-            Answer::Levels(1, 1),
+            Answer::Point(2, [1, 0, 0]),
         ),
         (
-            "a product with a bound",
-            [([0, 3, 0], 0), ([0, -2, 0], MIN), NONE, NONE],
-            Answer::Pair(1),
+            "a half and a third",
+            [([-2, 0, 0], -1), ([0, -3, 0], -1), NONE, NONE],
+            Answer::Point(6, [3, 2, 0]),
+        ),
+        (
+            "the worst bound from below",
+            [([-2, 0, 0], -3), ([-3, 0, 0], -5), ([-1, 0, 0], -1), NONE],
+            Answer::Point(3, [5, 0, 0]),
+        ),
+        (
+            "the worst bound from above",
+            [([2, 0, 0], -3), ([3, 0, 0], -5), ([1, 0, 0], -1), NONE],
+            Answer::Point(3, [-5, 0, 0]),
         ),
         (
             "three variables with all signs",
@@ -126,6 +170,21 @@ fn rows_are_refuted_or_eliminated(rt: HostRuntime) -> Result<(), Fail> {
             ],
             Answer::Combination(5, -1),
         ),
+        (
+            "three variables with all signs, and room",
+            [
+                ([1, 1, 1], -1),
+                ([-1, -1, 1], 0),
+                ([1, -1, -1], 0),
+                ([-1, 1, -1], 5),
+            ],
+            Answer::Point(2, [-1, 0, -1]),
+        ),
+        (
+            "fifths between two bounds",
+            [([3, -2, 0], -1), ([-3, 2, 1], 2), ([0, -5, 7], -3), NONE],
+            Answer::Point(5, [0, 3, 0]),
+        ),
     ] {
         assert_eq!(rt; answer_of(alloc, rows.as_slice()), Some(wanted), "{name}");
     }
@@ -133,24 +192,66 @@ fn rows_are_refuted_or_eliminated(rt: HostRuntime) -> Result<(), Fail> {
 }
 
 #[test]
-fn a_chain_of_a_hundred_differences_has_a_level_for_each(rt: HostRuntime) -> Result<(), Fail> {
+fn numbers_outside_128_bits_are_wide(rt: HostRuntime) -> Result<(), Fail> {
     let alloc = rt.alloc();
-    let mut rows = Items::new(alloc);
-    for var in 0..100_u32 {
-        let link = row(alloc, [(var, 1), (var + 1, -1)].as_slice(), -1).map_err(|_| "no row")?;
-        rows.push(link)?;
+    for (name, rows, wanted) in [
+        (
+            "a multiplier",
+            [([MIN, 0, 0], 0), ([1, 0, 0], 0)],
+            Answer::Pair(0),
+        ),
+        (
+            "a product with a bound in a sum",
+            [([0, 3, 0], 0), ([0, -2, 0], MIN)],
+            Answer::Pair(1),
+        ),
+        (
+            "a product of a bound and a unit",
+            [([1, 0, 0], MAX), ([0, -3, 0], -1)],
+            Answer::Bound(0),
+        ),
+        (
+            "what is left of a bound",
+            [([1, -1, 0], MIN), ([0, 1, 0], -1)],
+            Answer::Bound(0),
+        ),
+        (
+            "a product of two units",
+            [([-MAX, 0, 0], -1), ([0, -3, 0], -1)],
+            Answer::Bound(0),
+        ),
+        (
+            "a unit of 2 to the power 127",
+            [([MIN, 0, 0], -1), NONE],
+            Answer::Bound(0),
+        ),
+        (
+            "a value of 2 to the power 127",
+            [([-1, 0, 0], MIN), NONE],
+            Answer::Bound(0),
+        ),
+    ] {
+        assert_eq!(rt; answer_of(alloc, rows.as_slice()), Some(wanted), "{name}");
     }
-    if rows.len() as u128 >= 1 << 32 {
-        return Ok(());
+    Ok(())
+}
+
+#[test]
+fn a_chain_of_a_hundred_differences_is_met_or_closed(rt: HostRuntime) -> Result<(), Fail> {
+    let alloc = rt.alloc();
+    for (back, wanted) in [
+        (100, Answer::Point(1, [-100, -99, -98])),
+        (99, Answer::Combination(100, -1)),
+    ] {
+        let mut rows = Items::new(alloc);
+        for var in 0..100_u32 {
+            let terms = [(var, 1), (var + 1, -1)];
+            rows.push(row(alloc, terms.as_slice(), -1).map_err(|_| "no row")?)?;
+        }
+        let terms = [(0, -1), (100, 1)];
+        rows.push(row(alloc, terms.as_slice(), back).map_err(|_| "no row")?)?;
+        let solved = solve(alloc, rows.as_slice()).map_err(|_| "no memory")?;
+        assert_eq!(rt; kind_of(&solved), wanted, "{back}");
     }
-    let eliminated = eliminate_all(alloc, rows.as_slice()).map_err(|_| "no memory")?;
-    assert_eq!(rt; kind_of(&eliminated), Answer::Levels(0, 101));
-    let last = row(alloc, [(0, -1), (100, 1)].as_slice(), 99).map_err(|_| "no row")?;
-    rows.push(last)?;
-    if rows.len() as u128 >= 1 << 32 {
-        return Ok(());
-    }
-    let eliminated = eliminate_all(alloc, rows.as_slice()).map_err(|_| "no memory")?;
-    assert_eq!(rt; kind_of(&eliminated), Answer::Combination(100, -1));
     Ok(())
 }
