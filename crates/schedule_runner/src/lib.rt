@@ -1,0 +1,12 @@
+//! Schedules: their text, and runs of a module under them.
+#![tactic(auto)]
+
+mod cuts;
+mod fault;
+mod numbers;
+mod reader;
+mod schedule;
+
+pub use fault::ScheduleFault;
+pub use reader::{STEP_LIMIT, read_schedule};
+pub use schedule::{Schedule, ScheduleLine};
