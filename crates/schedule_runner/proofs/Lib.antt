@@ -1,1 +1,6 @@
-
+pub mod FirstLine
+pub mod Digits
+pub mod Texts
+pub mod Forms
+pub mod Scans
+pub mod Verdicts

@@ -8,7 +8,8 @@ use Rattle.schedule_runner.specs.declared.schedule.ScheduleLine.TheVariants.{Giv
 use Rattle.schedule_runner.specs.declared.schedule.Schedule.{Schedule}
 use Rattle.schedule_runner.specs.declared.fault.ScheduleFault.{ScheduleFault}
 use Rattle.schedule_runner.specs.declared.fault.ScheduleFault.TheVariants.{BadSchedule, ScheduleTooLong, OutOfMemory}
-use Rattle.schedule_runner.specs.ScheduleText.{head}
+use Rattle.schedule_runner.specs.declared.schedule.TheConstants.{STEP_LIMIT}
+use Rattle.schedule_runner.specs.ScheduleText.{head, steps_of}
 
 infixl 10 ◌>>=◌
 -- the next reading, where there was something to read
@@ -73,6 +74,11 @@ Gives (Ok all) read = read ≡ Ok all
 Gives (Err (BadSchedule n)) read = read ≡ Err (BadSchedule n)
 Gives (Err ScheduleTooLong) read = ⊥
 Gives (Err OutOfMemory) read = Unit {0}
+
+-- a schedule whose steps are too many is refused
+abbrev pub limited : Result (List ScheduleLine) ScheduleFault → Result Schedule ScheduleFault
+limited (Ok all) = if nat_lt STEP_LIMIT (steps_of all) then Err ScheduleTooLong else Ok (record { lines = all })
+limited (Err fault) = Err fault
 
 -- the schedule, unless memory was missing
 abbrev pub OkOrNoMemory : Result Schedule ScheduleFault → List ScheduleLine → Type 0

@@ -8,5 +8,5 @@ mod reader;
 mod schedule;
 
 pub use fault::ScheduleFault;
-pub use reader::{STEP_LIMIT, read_schedule};
-pub use schedule::{Schedule, ScheduleLine};
+pub use reader::read_schedule;
+pub use schedule::{STEP_LIMIT, Schedule, ScheduleLine};

@@ -30,6 +30,7 @@ fn is_number(bytes: &[u8]) -> bool
 }
 
 // The value of at most eighteen digits.
+#[tactic(auto, unfolding(crate::specs::Reading::number_value))]
 fn number_value(bytes: &[u8]) -> u64
     requires { is_number bytes.now ≡ true }
     ensures { result ≡ number_value bytes.now }

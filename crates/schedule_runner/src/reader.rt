@@ -1,20 +1,17 @@
 // From a text to its schedule.
-ghost use Rattle.std.specs.Prelude.{◌≡◌, ◌<◌, ◌≤◌, ◌+◌, ℕ, List, [], Err, IfOk, IfErr};
+ghost use Rattle.std.specs.Prelude.{◌≡◌, ◌<◌, ◌≤◌, ◌+◌, ℕ, List, [], Err, IfOk, IfErr, nat_lt};
 ghost use Rattle.std.specs.Str.{is_utf8};
 ghost use Rattle.schedule_runner.specs.declared.schedule.ScheduleLine.{ScheduleLine};
 ghost use Rattle.schedule_runner.specs.ScheduleText.{ReadsAs, IsFirstBad, lines_of, steps_of};
-ghost use Rattle.schedule_runner.specs.Reading.{OkOrNoMemory, ErrOrNoMemory, Gives, scan, scan_all, is_silent, line_of, give_of};
+ghost use Rattle.schedule_runner.specs.Reading.{OkOrNoMemory, ErrOrNoMemory, Gives, limited, scan, scan_all, is_silent, line_of, give_of};
 
 use crate::cuts::{behind, cut_at, first_line};
 use crate::fault::ScheduleFault;
 use crate::numbers::{count_of, number_of};
-use crate::schedule::{Schedule, ScheduleLine};
+use crate::schedule::{STEP_LIMIT, Schedule, ScheduleLine};
 use sqlite_items::Items;
 use std::alloc::Global;
 use std::str;
-
-/// How many steps a schedule may have.
-pub const STEP_LIMIT: u64 = 10_000_000;
 
 /// The schedule that a text reads as. A line whose number doesn't fit is answered by want of memory.
 pub fn read_schedule(alloc: Global, text: &[u8]) -> Result<Schedule, ScheduleFault>
@@ -33,7 +30,34 @@ pub fn read_schedule(alloc: Global, text: &[u8]) -> Result<Schedule, ScheduleFau
     ensures too_long { (all : List ScheduleLine) → ReadsAs text.now all → STEP_LIMIT < steps_of all →
         ErrOrNoMemory result ScheduleFault.ScheduleTooLong }
 {
-    Err(ScheduleFault::OutOfMemory)
+    limited(read_text(alloc, text))
+}
+
+// A schedule whose steps are too many is refused.
+fn limited(read: Result<Items<ScheduleLine>, ScheduleFault>) -> Result<Schedule, ScheduleFault>
+    ensures { result ≡ limited read }
+{
+    let lines = read?;
+    if is_too_long(lines.as_slice()) {
+        Err(ScheduleFault::ScheduleTooLong)
+    } else {
+        Ok(Schedule { lines })
+    }
+}
+
+// Whether the lines have more steps than a schedule may.
+fn is_too_long(lines: &[ScheduleLine]) -> bool
+    ensures { result ≡ nat_lt STEP_LIMIT (steps_of lines.now) }
+{
+    let mut left = STEP_LIMIT;
+    for line in lines {
+        let count = line.count();
+        if left < count {
+            return true;
+        }
+        left -= count;
+    }
+    false
 }
 
 // The schedule lines of a text, with no regard to how many steps they have.

@@ -1,5 +1,11 @@
 // Schedules.
+ghost use Rattle.std.specs.Prelude.{◌≡◌};
+ghost use Rattle.schedule_runner.specs.ScheduleText.{count_in};
+
 use sqlite_items::Items;
+
+/// How many steps a schedule may have.
+pub const STEP_LIMIT: u64 = 10_000_000;
 
 /// A line of a schedule that gives steps.
 #[derive(Clone, Copy, Debug, PartialEq, Eq)]
@@ -14,4 +20,16 @@ pub enum ScheduleLine {
 #[derive(Debug, Drop)]
 pub struct Schedule {
     pub lines: Items<ScheduleLine>,
+}
+
+impl ScheduleLine {
+    /// How many steps the line gives.
+    pub fn count(self) -> u64
+        ensures { result ≡ count_in self }
+    {
+        match self {
+            ScheduleLine::Give(_, count) => count,
+            ScheduleLine::Fair(count) => count,
+        }
+    }
 }
