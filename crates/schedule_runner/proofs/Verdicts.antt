@@ -110,17 +110,17 @@ pub record Told (r : Answer) (text : List ℕ) : Type 0 where
 told_ok : (all : List ScheduleLine) (text : List ℕ) → ReadsAs text all → Told (Ok all) text
 told_ok all text is = elim (within_or_long all) as (λ _. Told (Ok all) text) [
   | inl few ↦ let a = limit_ok all few in record {
-      reads = subst (λ t. IfOk t (λ s. ReadsAs text s.lines)) (sym a) is;
-      few = subst (λ t. IfOk t (λ s. steps_of s.lines ≤ STEP_LIMIT)) (sym a) few;
-      bad = λ n e. let none : ◌≡◌ {A = Result Schedule ScheduleFault} (Ok (record { lines = all })) (Err (BadSchedule n)) = sym a ∙ e in cc;
-      long = λ e. let none : ◌≡◌ {A = Result Schedule ScheduleFault} (Ok (record { lines = all })) (Err ScheduleTooLong) = sym a ∙ e in cc;
-    }
+    reads = subst (λ t. IfOk t (λ s. ReadsAs text s.lines)) (sym a) is;
+    few = subst (λ t. IfOk t (λ s. steps_of s.lines ≤ STEP_LIMIT)) (sym a) few;
+    bad = λ n e. let none : ◌≡◌ {A = Result Schedule ScheduleFault} (Ok (record { lines = all })) (Err (BadSchedule n)) = sym a ∙ e in cc;
+    long = λ e. let none : ◌≡◌ {A = Result Schedule ScheduleFault} (Ok (record { lines = all })) (Err ScheduleTooLong) = sym a ∙ e in cc;
+  }
   | inr many ↦ let a = limit_long all many in record {
-      reads = subst (λ t. IfOk t (λ s. ReadsAs text s.lines)) (sym a) tt;
-      few = subst (λ t. IfOk t (λ s. steps_of s.lines ≤ STEP_LIMIT)) (sym a) tt;
-      bad = λ n e. let none : ◌≡◌ {A = Result Schedule ScheduleFault} (Err ScheduleTooLong) (Err (BadSchedule n)) = sym a ∙ e in cc;
-      long = λ e. (all, is, many);
-    }
+    reads = subst (λ t. IfOk t (λ s. ReadsAs text s.lines)) (sym a) tt;
+    few = subst (λ t. IfOk t (λ s. steps_of s.lines ≤ STEP_LIMIT)) (sym a) tt;
+    bad = λ n e. let none : ◌≡◌ {A = Result Schedule ScheduleFault} (Err ScheduleTooLong) (Err (BadSchedule n)) = sym a ∙ e in cc;
+    long = λ e. (all, is, many);
+  }
 ]
 
 bad_number : (m n : ℕ) → ◌≡◌ {A = Result Schedule ScheduleFault} (Err (BadSchedule m)) (Err (BadSchedule n)) → m ≡ n
@@ -158,4 +158,28 @@ told r text gives = elim (read_or_no_memory r (scan_all (lines_of text)) gives) 
     | inr bad ↦ subst (λ t. Told t text) (sym (same ∙ bad.1)) (told_bad bad.0 text (bad.2 text refl))
   ]
   | inr none ↦ subst (λ t. Told t text) (sym none) (told_none text)
+]
+
+same_ok : (a b : List ScheduleLine) → ◌≡◌ {A = Answer} (Ok a) (Ok b) → a ≡ b
+same_ok a b e = cc
+
+same_bad : (m n : ℕ) → ◌≡◌ {A = Answer} (Err (BadSchedule m)) (Err (BadSchedule n)) → m ≡ n
+same_bad m n e = cc
+
+ok_no_bad : (a : List ScheduleLine) (n : ℕ) → ◌≡◌ {A = Answer} (Ok a) (Err (BadSchedule n)) → ⊥
+ok_no_bad a n e = cc
+
+pub one_schedule : (text : List ℕ) (a b : List ScheduleLine) → ReadsAs text a → ReadsAs text b → a ≡ b
+one_schedule text a b is also = same_ok a b (sym (read_is text a is) ∙ read_is text b also)
+
+pub one_line : (text : List ℕ) (m n : ℕ) → IsFirstBad text m → IsFirstBad text n → m ≡ n
+one_line text m n is also = same_bad m n (sym (first_bad_is text m is) ∙ first_bad_is text n also)
+
+pub not_both : (text : List ℕ) (a : List ScheduleLine) (n : ℕ) → ReadsAs text a → ¬ IsFirstBad text n
+not_both text a n is bad = ok_no_bad a n (sym (read_is text a is) ∙ first_bad_is text n bad)
+
+pub an_answer : (text : List ℕ) → ((all : List ScheduleLine) × ReadsAs text all) ⊎ ((n : ℕ) × IsFirstBad text n)
+an_answer text = elim (verdict (lines_of text)) as (λ _. ((all : List ScheduleLine) × ReadsAs text all) ⊎ ((n : ℕ) × IsFirstBad text n)) [
+  | inl read ↦ inl (read.0, read.2 text refl)
+  | inr bad ↦ inr (bad.0, bad.2 text refl)
 ]
