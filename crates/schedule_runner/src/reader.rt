@@ -49,15 +49,11 @@ fn limited(read: Result<Items<ScheduleLine>, ScheduleFault>) -> Result<Schedule,
 fn is_too_long(lines: &[ScheduleLine]) -> bool
     ensures { result ≡ nat_lt STEP_LIMIT (steps_of lines.now) }
 {
-    let mut left = STEP_LIMIT;
+    let mut sum = 0u64;
     for line in lines {
-        let count = line.count();
-        if left < count {
-            return true;
-        }
-        left -= count;
+        sum = sum.saturating_add(line.count());
     }
-    false
+    STEP_LIMIT < sum
 }
 
 // The schedule lines of a text, with no regard to how many steps they have.
