@@ -4,3 +4,4 @@ mod Parts
 mod Eleven
 mod ElevenSteps
 mod ReplacedSteps
+mod Stacks
