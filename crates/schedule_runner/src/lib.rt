@@ -2,12 +2,16 @@
 #![tactic(auto)]
 
 mod cuts;
+mod ending;
 mod fault;
+mod grant;
 mod laws;
 mod numbers;
 mod reader;
+mod running;
 mod schedule;
 
+pub use ending::{RunEnd, RunFault};
 pub use fault::ScheduleFault;
 pub use laws::a_text_reads_or_has_a_bad_line;
 pub use reader::read_schedule;
