@@ -10,6 +10,7 @@ mod numbers;
 mod reader;
 mod running;
 mod schedule;
+mod turn;
 
 pub use ending::{RunEnd, RunFault};
 pub use fault::ScheduleFault;
