@@ -4,3 +4,5 @@ pub mod Texts
 pub mod Forms
 pub mod Scans
 pub mod Verdicts
+pub mod Pieces
+pub mod Played
