@@ -1,7 +1,7 @@
 -- What single steps of a run and longer parts of it play.
 use Rattle.std.proofs.Common.{◌≡◌, ◌≢◌, ◌∙◌, sym, ap, subst, refl, ℕ, zero, suc, ◌+◌, ◌-◌, ◌≤◌, ◌<◌, Option, Some, None, Result, Ok, Err, IfOk, List, [], ◌∷◌, ◌++◌, append_assoc, append-nil, arith, replicate, take, drop, length, get_or, flat_map}
 use Rattle.std.specs.Option.{option_map_or}
-use Rattle.std.proofs.lemmas.List.{replicate-append-replicate, take-append-drop, at_drop_more}
+use Rattle.std.proofs.lemmas.List.{replicate-append-replicate, take-append-drop, take_more}
 use Rattle.std.proofs.lemmas.List.Concat.{flat_map-append}
 use Rattle.std.specs.Io.KnownBytes.{Appends}
 use Rattle.std.proofs.KnownBytes.{Appends-nil, Appends-trans}
@@ -18,6 +18,7 @@ use Rattle.machine_model.specs.Steps.{Stepped, Same, Went, Fails, TooLarge, step
 use Rattle.machine_step.specs.Bits.{has_128_bits}
 use Rattle.machine_step.specs.Stepping.{IsStep, trace_of}
 use Rattle.schedule_runner.specs.declared.schedule.ScheduleLine.{ScheduleLine}
+use Rattle.schedule_runner.specs.declared.schedule.ScheduleLine.TheVariants.{Fair}
 use Rattle.schedule_runner.specs.declared.grant.Grant.{Grant}
 use Rattle.schedule_runner.specs.declared.grant.Grant.TheVariants.{To, Following}
 use Rattle.schedule_runner.specs.declared.ending.RunEnd.{RunEnd}
@@ -145,3 +146,48 @@ pub cut_at : (m : Module) (g : Grant) (n count : ℕ) (r mid now : Running) (fau
 cut_at m g n count r mid now fault old middle new within a b =
     subst (λ grants. IsCut m grants r old new) (all_of n count g within)
     (cut_more m (replicate n g ++ g ∷ []) (replicate (count - (n + 1)) g) r old new (plays_then m (replicate n g) (g ∷ []) r mid now (Err fault) old middle new a b))
+
+pub plays_goes : (m : Module) (gs : List Grant) (r now : Running) (x : Turn) (old new : Bytes) → x ≡ Goes → Plays m gs r (Ok x) now old new → GoesOn m gs r now old new
+plays_goes m gs r now x old new is plays = subst (λ y. Plays m gs r (Ok y) now old new) is plays
+
+pub plays_ends : (m : Module) (gs : List Grant) (r now : Running) (x : Turn) (e : RunEnd) (old new : Bytes) → x ≡ Ends e → Plays m gs r (Ok x) now old new → HasEnded m gs r e old new
+plays_ends m gs r now x e old new is plays = subst (λ y. Plays m gs r (Ok y) now old new) is plays
+
+-- a line that goes round
+fair_is : (k : ℕ) → 1 ≤ k → fair_grants k ≡ (To 0 ∷ []) ++ replicate (k - 1) Following
+fair_is zero some = let none : ⊥ = omega (arith, some) in absurd none
+fair_is (suc k) some = ap (λ j. To 0 ∷ replicate j Following) (omega arith)
+
+pub fair_then : (m : Module) (line : ScheduleLine) (k : ℕ) (r mid now : Running) (res : Result Turn RunFault) (old middle new : Bytes) → line ≡ Fair k → 1 ≤ k → GoesOn m (To 0 ∷ []) r mid old middle → Plays m (replicate (k - 1) Following) mid res now middle new → Plays m (grants_in line) r res now old new
+fair_then m line k r mid now res old middle new is some a b =
+    subst (λ grants. Plays m grants r res now old new) (sym (ap grants_in is ∙ fair_is k some)) (plays_then m (To 0 ∷ []) (replicate (k - 1) Following) r mid now res old middle new a b)
+
+pub fair_cut : (m : Module) (line : ScheduleLine) (k : ℕ) (r : Running) (old new : Bytes) → line ≡ Fair k → 1 ≤ k → IsCut m (To 0 ∷ []) r old new → IsCut m (grants_in line) r old new
+fair_cut m line k r old new is some cut = subst (λ grants. IsCut m grants r old new) (sym (ap grants_in is ∙ fair_is k some)) (cut_more m (To 0 ∷ []) (replicate (k - 1) Following) r old new cut)
+
+flat_map_more : {X Y : Type 0} (f : X → List Y) (xs : List X) (i : ℕ) (d : X) → i < length xs → flat_map f (take (i + 1) xs) ≡ flat_map f (take i xs) ++ f (get_or xs i d)
+flat_map_more f xs i d within = ap (flat_map f) (take_more xs i d within) ∙ flat_map-append f (take i xs) (get_or xs i d ∷ []) ∙ ap (λ x. flat_map f (take i xs) ++ x) (append-nil (f (get_or xs i d)))
+
+-- the lines so far, and one more
+lines_more : (all : List ScheduleLine) (i : ℕ) (d : ScheduleLine) → i < length all → grants_of (take i all) ++ grants_in (get_or all i d) ≡ grants_of (take (i + 1) all)
+lines_more all i d within = sym (flat_map_more grants_in all i d within)
+
+lines_all : (all : List ScheduleLine) (i : ℕ) (d : ScheduleLine) → i < length all → (grants_of (take i all) ++ grants_in (get_or all i d)) ++ grants_of (drop (i + 1) all) ≡ grants_of all
+lines_all all i d within = ap (λ x. x ++ grants_of (drop (i + 1) all)) (lines_more all i d within) ∙ sym (flat_map-append grants_in (take (i + 1) all) (drop (i + 1) all)) ∙ ap grants_of (take-append-drop (i + 1) all)
+
+pub goes_line : (m : Module) (all : List ScheduleLine) (i : ℕ) (d : ScheduleLine) (r mid now : Running) (old middle new : Bytes) → i < length all → GoesOn m (grants_of (take i all)) r mid old middle → GoesOn m (grants_in (get_or all i d)) mid now middle new → GoesOn m (grants_of (take (i + 1) all)) r now old new
+goes_line m all i d r mid now old middle new within a b =
+    subst (λ grants. GoesOn m grants r now old new) (lines_more all i d within) (plays_then m (grants_of (take i all)) (grants_in (get_or all i d)) r mid now (Ok Goes) old middle new a b)
+
+pub ended_line : (m : Module) (all : List ScheduleLine) (i : ℕ) (d : ScheduleLine) (r mid now : Running) (e : RunEnd) (old middle new : Bytes) → i < length all → GoesOn m (grants_of (take i all)) r mid old middle → HasEnded m (grants_in (get_or all i d)) mid e middle new → HasEnded m (grants_of all) r e old new
+ended_line m all i d r mid now e old middle new within a b =
+    subst (λ grants. HasEnded m grants r e old new) (lines_all all i d within)
+    (ended_more m (grants_of (take i all) ++ grants_in (get_or all i d)) (grants_of (drop (i + 1) all)) r e old new (plays_then m (grants_of (take i all)) (grants_in (get_or all i d)) r mid now (Ok (Ends e)) old middle new a b))
+
+pub cut_line : (m : Module) (all : List ScheduleLine) (i : ℕ) (d : ScheduleLine) (r mid now : Running) (fault : RunFault) (old middle new : Bytes) → i < length all → GoesOn m (grants_of (take i all)) r mid old middle → IsCut m (grants_in (get_or all i d)) mid middle new → IsCut m (grants_of all) r old new
+cut_line m all i d r mid now fault old middle new within a b =
+    subst (λ grants. IsCut m grants r old new) (lines_all all i d within)
+    (cut_more m (grants_of (take i all) ++ grants_in (get_or all i d)) (grants_of (drop (i + 1) all)) r old new (plays_then m (grants_of (take i all)) (grants_in (get_or all i d)) r mid now (Err fault) old middle new a b))
+
+pub ok_no_fault : (x : Turn) (f : RunFault) → ◌≡◌ {A = Result Turn RunFault} (Ok x) (Err f) → ⊥
+ok_no_fault x f e = cc

@@ -11,12 +11,14 @@ mod reader;
 mod running;
 mod schedule;
 mod turn;
+mod under_schedule;
 
 pub use ending::{RunEnd, RunFault};
 pub use fault::ScheduleFault;
 pub use laws::a_text_reads_or_has_a_bad_line;
 pub use reader::read_schedule;
 pub use schedule::{STEP_LIMIT, Schedule, ScheduleLine};
+pub use under_schedule::run;
 
 #[cfg(test)]
 mod tests;
