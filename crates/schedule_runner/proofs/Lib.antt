@@ -6,3 +6,4 @@ pub mod Scans
 pub mod Verdicts
 pub mod Pieces
 pub mod Played
+pub mod Over
