@@ -1,7 +1,7 @@
 -- Members of a list that is seen the other way round.
 use Rattle.std.proofs.Common.{◌≡◌, ◌<◌, ◌≤◌, ◌-◌, ℕ, zero, suc, List, [], ◌∷◌, ◌++◌, length, reverse, take, drop, set, get_or, min, Some, None, refl, ap, sym, ◌∙◌, arith, slice_get}
 use Rattle.std.proofs.lemmas.Bool.{cases_eq}
-use Rattle.std.proofs.lemmas.List.{get_or-reverse, length-reverse, reverse-append, take-append-drop, drop_at, drop_min, length-drop, length-set, get_or-set_same, get_or-set_other, same_lists}
+use Rattle.std.proofs.lemmas.List.{get_or-reverse, length-reverse, reverse-append, take-append-drop, drop_at, drop_all, drop_min, length-drop, length-set, get_or-set_same, get_or-set_other, same_lists}
 use Rattle.std.proofs.lemmas.Option.{slice_get-get_or, slice_get_past}
 
 pub length_reverse : {X : Type 0} (xs : List X) → length (reverse xs) ≡ length xs
@@ -38,10 +38,10 @@ set_reverse {X} xs depth x within =
     let long : length written ≡ length xs = length-set xs (length xs - 1 - depth) x in
     let same : length (reverse written) ≡ length (set (reverse xs) depth x) = length-reverse written ∙ long ∙ sym (length-reverse xs) ∙ sym (length-set (reverse xs) depth x) in
     same_lists (reverse written) (set (reverse xs) depth x) same (λ k d inside.
-        let here : k < length written = omega (arith, length-reverse written) in
-        get_or-reverse written k d here
-        ∙ ap (λ n. get_or written (n - 1 - k) d) long
-        ∙ set_there xs depth x k d within (omega arith))
+    let here : k < length written = omega (arith, length-reverse written) in
+    get_or-reverse written k d here
+    ∙ ap (λ n. get_or written (n - 1 - k) d) long
+    ∙ set_there xs depth x k d within (omega arith))
 
 set_front : {X : Type 0} (xs : List X) (n : ℕ) (x : X) → n < length xs → set (drop n xs) 0 x ≡ x ∷ drop (suc n) xs
 set_front [] n x within = absurd (omega arith)
@@ -52,3 +52,11 @@ pub set_dropped : {X : Type 0} (xs : List X) (count : ℕ) (x : X) → 0 < count
 set_dropped xs count x more most =
     let next : suc (count - 1) ≡ count = omega arith in
     set_front xs (count - 1) x (omega arith) ∙ ap (λ k. x ∷ drop k xs) next
+
+pub nothing_dropped : {X : Type 0} (xs : List X) (count : ℕ) → length xs ≡ 0 → drop count xs ≡ xs
+nothing_dropped [] zero none = refl
+nothing_dropped [] (suc n) none = refl
+nothing_dropped (y ∷ ys) count none = absurd (omega (arith, none))
+
+pub all_dropped : {X : Type 0} (xs : List X) (count : ℕ) → length xs ≤ count → drop (length xs) xs ≡ drop count xs
+all_dropped xs count all = drop_all (length xs) xs (omega arith) ∙ sym (drop_all count xs all)

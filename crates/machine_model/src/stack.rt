@@ -82,20 +82,22 @@ impl<T: Drop> Stack<T> {
     pub fn drop_top(&mut self, count: usize)
         ensures { self.new ≡ drop count self.old }
     {
-        self.members.truncate(self.members.len().saturating_sub(count));
+        self.members
+            .truncate(self.members.len().saturating_sub(count));
     }
 
     /// Puts a member in the place of the topmost ones, so many. Without memory nothing is changed.
-    #[tactic(auto, using(crate::proofs::Stacks::set_dropped))]
+    #[tactic(auto, using(crate::proofs::Stacks::nothing_dropped, crate::proofs::Stacks::all_dropped, crate::proofs::Stacks::set_dropped))]
     pub fn put(&mut self, count: usize, member: T) -> Result<(), OutOfMemory>
-        requires { count ≤ length self.old }
         ensures ok { OnOk result (self.new ≡ member ∷ drop count self.old) }
         ensures err { OnErr result (self.new ≡ self.old) }
     {
-        if count == 0 {
+        let there = self.len();
+        if count == 0 || there == 0 {
             return self.push(member);
         }
-        self.drop_top(count - 1);
+        let dropped = if count < there { count } else { there };
+        self.drop_top(dropped - 1);
         self.exchange(0, member);
         Ok(())
     }
