@@ -14,7 +14,6 @@ use Rattle.machine_model.specs.Results.{Res, Got, then_do}
 use Rattle.machine_model.specs.Evaluation.{Scene, Reading, Meaning, form_meaning, meaning, with_value, of_reference, given}
 use Rattle.machine_model.specs.Reading.{Verdict, Judge, Judgement, values_of, verdict_if, atom_judgement, judgement, within, is_none, holds, is_true, opened_at, opens_within, room}
 use Rattle.machine_model.specs.Steps.{whole}
-use Rattle.std.specs.Option.{option_map}
 use Rattle.machine_model.specs.Operators.{binary}
 use Rattle.std.proofs.lemmas.List.Elements.{All-nil, All-cons, All-head}
 use Rattle.py_syntax.specs.declared.Pred.{Pred}
@@ -24,7 +23,7 @@ use Rattle.machine_laws.specs.WholeReadings.{opens_answered}
 use Rattle.machine_laws.specs.DepthLaws.{opens_holds}
 use Rattle.machine_model.specs.Smallest.{at}
 use Rattle.machine_laws.specs.ReadingWidths.{of_expr, of_instance, layer_read, of_assertion, layer_judged}
-use Rattle.machine_laws.specs.Depths.{Opens, body_holds, holds_at, atom_instances, instances_of, IsObject, IsBelowIfAny, IsOver, IsReference, NamesReferences, BodiesNameReferences}
+use Rattle.machine_laws.specs.Depths.{Opens, holds_at, atom_instances, instances_of, IsObject, IsBelowIfAny, IsOver, IsReference, NamesReferences, BodiesNameReferences}
 use Rattle.machine_laws.specs.Chained.{x, nothing, is_node, next, rest, goes_on, body, chain, chained, nodes}
 
 read_out : (e : Expr) (s : Scene) → meaning whole e s ≡ layer_read whole (out-ExprForm (out-Expr e).form) (out-Expr e).place s
