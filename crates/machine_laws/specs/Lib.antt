@@ -1,6 +1,7 @@
 pub mod Widths
 pub mod Computes
 pub mod Examples
+pub mod Chained
 pub mod ReadingWidths
 pub mod DutyWidths
 pub mod ItemWidths

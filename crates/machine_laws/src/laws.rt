@@ -1,5 +1,5 @@
 // Laws that hold of every module and every state.
-ghost use Rattle.std.specs.Prelude.{◌≡◌, ◌↔◌, ◌⊎◌, ℕ, ◌≤◌, Bool, true, false, List, [], ◌++◌, Option, pos, ◌∷◌};
+ghost use Rattle.std.specs.Prelude.{◌≡◌, ◌↔◌, ◌⊎◌, ℕ, ◌≤◌, Bool, true, false, List, [], ◌++◌, Option};
 ghost use Rattle.py_base.specs.declared.Place.{Place};
 ghost use Rattle.py_syntax.specs.declared.Value.{Value};
 ghost use Rattle.py_syntax.specs.declared.Assertion.{Assertion};
@@ -8,10 +8,8 @@ ghost use Rattle.machine_model.specs.declared.state.State.{State};
 ghost use Rattle.machine_model.specs.Results.{Got, Width};
 ghost use Rattle.machine_model.specs.Evaluation.{Scene};
 ghost use Rattle.machine_model.specs.Reading.{Miss, Opened, opens_within, room, read_assertions};
-ghost use Rattle.machine_model.specs.Smallest.{at, smallest};
 ghost use Rattle.machine_model.specs.Frames.{After};
 ghost use Rattle.machine_model.specs.Steps.{Went, TooLarge, step, whole, after};
-ghost use Rattle.machine_laws.specs.Examples.{at_the_sum};
 ghost use Rattle.machine_laws.specs.Growth.{StateGrows, Extends};
 ghost use Rattle.machine_laws.specs.Widths.{Computed, StepComputes};
 ghost use Rattle.machine_laws.specs.Depths.{holds_at, Holds, Takes, StaysAmongObjects, IsOver, BodiesNameReferences};
@@ -65,9 +63,4 @@ pub fn readings_have_answers()
         (opens_within whole m s n path q vs ≡ Got true) ⊎ (opens_within whole m s n path q vs ≡ Got false) }
     ensures contracts { (m : Module) (objects : ℕ) (held : Option Value → Bool) (s : Scene) (all : List Assertion) →
         (miss : Option Miss) × (read_assertions whole m objects held s all ≡ Got miss) }
-{}
-
-/// The sum of 3 and 2 computes one number, which is 5, at the place of its operator.
-pub fn a_sum_computes_its_value()
-    ensures { StepComputes smallest at_the_sum 0 ((at 3 14, pos 5) ∷ []) }
 {}
