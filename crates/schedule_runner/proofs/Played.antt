@@ -60,12 +60,16 @@ pub turn_went : (m : Module) (g : Grant) (r : Running) (s : State) (t : ℕ) (x 
 turn_went m g r s t x trace res old new goes at went is shown = by res shown where
   done : IsStep m r.state t (Ok (moved.Went trace)) s
   done = subst (λ y. IsStep m r.state t (Ok y) s) went is
+
   line : trace.line ≡ (done.0).line
   line = ap (λ (y : Trace). y.line) done.2
+
   later : List Grant → Outcome
   later more = output has_128_bits m more t s
+
   known : (more : List Grant) → output_from m (g ∷ more) r ≡ before (one_of trace.line) (later more)
   known more = at_thread m g more r t (Went done.0 s) goes at done.1 ∙ ap (λ l. before (one_of l) (later more)) (sym line)
+
   by : (res : Result Turn RunFault) → IsShown s trace.line res old new → Plays m (g ∷ []) r res (record { state = s; last = t }) old new
   by (Ok Goes) shown = record { lines = one_of trace.line; goes = turn_goes (end_in s) shown.0; played = known; written = shown.1 }
   by (Ok (Ends e)) shown =
@@ -80,8 +84,10 @@ pub turn_failed : (m : Module) (g : Grant) (r : Running) (s : State) (t : ℕ) (
 turn_failed m g r s t x kind_of p res old goes at failed is stops = by res stops where
   done : IsStep m r.state t (Ok (moved.Failed kind_of p)) s
   done = subst (λ y. IsStep m r.state t (Ok y) s) failed is
+
   at_end : HasEnded m (g ∷ []) r (ending.Stopped kind_of p t) old old
   at_end = record { lines = []; played = λ more. at_thread m g more r t (Fails kind_of p) goes at done.0; written = Appends-nil old }
+
   by : (res : Result Turn RunFault) → IfOk res (λ turn. turn ≡ Ends (ending.Stopped kind_of p t)) → Plays m (g ∷ []) r res (record { state = s; last = t }) old old
   by (Ok turn) stops = subst (λ y. Plays m (g ∷ []) r (Ok y) (record { state = s; last = t }) old old) (sym stops) at_end
   by (Err fault) stops = λ more. part_none old (text_of (output_from m (g ∷ more) r).lines)

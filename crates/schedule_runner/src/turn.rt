@@ -29,11 +29,15 @@ pub fn play_lines<O: Sink>(
 ) -> Result<Turn, RunFault>
     requires built { IsBuilt m.now running.old.state }
     requires goes { end_in running.old.state ≡ None }
-    ensures plays { Plays m.now (grants_of lines.now) running.old result running.new (O.written out.old) (O.written out.new) }
+    ensures plays { Plays m.now (grants_of lines.now) running.old result running.new
+        (O.written out.old) (O.written out.new) }
     ensures built { IsBuilt m.now running.new.state }
-    ensures counted { IsErrOf result RunFault.Write → Rose (O.faults out.old) (O.faults out.new) }
-    ensures not_counted { ¬ IsErrOf result RunFault.Write → O.faults out.new ≡ O.faults out.old }
-    ensures late { O.faults out.old ≡ 0 → O.late out.old ≡ false → O.late out.new ≡ false }
+    ensures counted { IsErrOf result RunFault.Write →
+        Rose (O.faults out.old) (O.faults out.new) }
+    ensures not_counted { ¬ IsErrOf result RunFault.Write →
+        O.faults out.new ≡ O.faults out.old }
+    ensures late { O.faults out.old ≡ 0 → O.late out.old ≡ false →
+        O.late out.new ≡ false }
 {
     for line in lines {
         match play_line(alloc, m, running, *line, out) {
@@ -55,11 +59,15 @@ fn play_line<O: Sink>(
 ) -> Result<Turn, RunFault>
     requires built { IsBuilt m.now running.old.state }
     requires goes { end_in running.old.state ≡ None }
-    ensures plays { Plays m.now (grants_in line) running.old result running.new (O.written out.old) (O.written out.new) }
+    ensures plays { Plays m.now (grants_in line) running.old result running.new
+        (O.written out.old) (O.written out.new) }
     ensures built { IsBuilt m.now running.new.state }
-    ensures counted { IsErrOf result RunFault.Write → Rose (O.faults out.old) (O.faults out.new) }
-    ensures not_counted { ¬ IsErrOf result RunFault.Write → O.faults out.new ≡ O.faults out.old }
-    ensures late { O.faults out.old ≡ 0 → O.late out.old ≡ false → O.late out.new ≡ false }
+    ensures counted { IsErrOf result RunFault.Write →
+        Rose (O.faults out.old) (O.faults out.new) }
+    ensures not_counted { ¬ IsErrOf result RunFault.Write →
+        O.faults out.new ≡ O.faults out.old }
+    ensures late { O.faults out.old ≡ 0 → O.late out.old ≡ false →
+        O.late out.new ≡ false }
 {
     match line {
         ScheduleLine::Give(thread, count) => {
@@ -85,11 +93,15 @@ fn repeat<O: Sink>(
 ) -> Result<Turn, RunFault>
     requires built { IsBuilt m.now running.old.state }
     requires goes { end_in running.old.state ≡ None }
-    ensures plays { Plays m.now (replicate count grant) running.old result running.new (O.written out.old) (O.written out.new) }
+    ensures plays { Plays m.now (replicate count grant) running.old result running.new
+        (O.written out.old) (O.written out.new) }
     ensures built { IsBuilt m.now running.new.state }
-    ensures counted { IsErrOf result RunFault.Write → Rose (O.faults out.old) (O.faults out.new) }
-    ensures not_counted { ¬ IsErrOf result RunFault.Write → O.faults out.new ≡ O.faults out.old }
-    ensures late { O.faults out.old ≡ 0 → O.late out.old ≡ false → O.late out.new ≡ false }
+    ensures counted { IsErrOf result RunFault.Write →
+        Rose (O.faults out.old) (O.faults out.new) }
+    ensures not_counted { ¬ IsErrOf result RunFault.Write →
+        O.faults out.new ≡ O.faults out.old }
+    ensures late { O.faults out.old ≡ 0 → O.late out.old ≡ false →
+        O.late out.new ≡ false }
 {
     let mut left = count;
     while 0 < left {
@@ -113,11 +125,15 @@ fn take_turn<O: Sink>(
 ) -> Result<Turn, RunFault>
     requires built { IsBuilt m.now running.old.state }
     requires goes { end_in running.old.state ≡ None }
-    ensures plays { Plays m.now (grant ∷ []) running.old result running.new (O.written out.old) (O.written out.new) }
+    ensures plays { Plays m.now (grant ∷ []) running.old result running.new
+        (O.written out.old) (O.written out.new) }
     ensures built { IsBuilt m.now running.new.state }
-    ensures counted { IsErrOf result RunFault.Write → Rose (O.faults out.old) (O.faults out.new) }
-    ensures not_counted { ¬ IsErrOf result RunFault.Write → O.faults out.new ≡ O.faults out.old }
-    ensures late { O.faults out.old ≡ 0 → O.late out.old ≡ false → O.late out.new ≡ false }
+    ensures counted { IsErrOf result RunFault.Write →
+        Rose (O.faults out.old) (O.faults out.new) }
+    ensures not_counted { ¬ IsErrOf result RunFault.Write →
+        O.faults out.new ≡ O.faults out.old }
+    ensures late { O.faults out.old ≡ 0 → O.late out.old ≡ false →
+        O.late out.new ≡ false }
 {
     let thread = running.thread_for(grant);
     running.last = thread;
@@ -165,9 +181,12 @@ fn go_on<O: Sink>(
     out: &mut O,
 ) -> Result<Turn, RunFault>
     ensures shown { IsShown s.now trace.now.line result (O.written out.old) (O.written out.new) }
-    ensures counted { IsErrOf result RunFault.Write → Rose (O.faults out.old) (O.faults out.new) }
-    ensures not_counted { ¬ IsErrOf result RunFault.Write → O.faults out.new ≡ O.faults out.old }
-    ensures late { O.faults out.old ≡ 0 → O.late out.old ≡ false → O.late out.new ≡ false }
+    ensures counted { IsErrOf result RunFault.Write →
+        Rose (O.faults out.old) (O.faults out.new) }
+    ensures not_counted { ¬ IsErrOf result RunFault.Write →
+        O.faults out.new ≡ O.faults out.old }
+    ensures late { O.faults out.old ≡ 0 → O.late out.old ≡ false →
+        O.late out.new ≡ false }
 {
     if let Err(fault) = show(alloc, trace, out) {
         return Err(fault);
@@ -177,11 +196,16 @@ fn go_on<O: Sink>(
 
 // Writes the line that a step printed, if it printed one.
 fn show<O: Sink>(alloc: Global, trace: &Trace, out: &mut O) -> Result<(), RunFault>
-    ensures whole { OnOk result (Appends (O.written out.old) (O.written out.new) (text_of (one_of trace.now.line))) }
-    ensures part { OnErr result (AppendsPart (O.written out.old) (O.written out.new) (text_of (one_of trace.now.line))) }
-    ensures counted { IsErrOf result RunFault.Write → Rose (O.faults out.old) (O.faults out.new) }
-    ensures not_counted { ¬ IsErrOf result RunFault.Write → O.faults out.new ≡ O.faults out.old }
-    ensures late { O.faults out.old ≡ 0 → O.late out.old ≡ false → O.late out.new ≡ false }
+    ensures whole { OnOk result
+        (Appends (O.written out.old) (O.written out.new) (text_of (one_of trace.now.line))) }
+    ensures part { OnErr result
+        (AppendsPart (O.written out.old) (O.written out.new) (text_of (one_of trace.now.line))) }
+    ensures counted { IsErrOf result RunFault.Write →
+        Rose (O.faults out.old) (O.faults out.new) }
+    ensures not_counted { ¬ IsErrOf result RunFault.Write →
+        O.faults out.new ≡ O.faults out.old }
+    ensures late { O.faults out.old ≡ 0 → O.late out.old ≡ false →
+        O.late out.new ≡ false }
 {
     match &trace.line {
         None => Ok(()),
@@ -191,11 +215,16 @@ fn show<O: Sink>(alloc: Global, trace: &Trace, out: &mut O) -> Result<(), RunFau
 
 // Writes a line with its end, by one write.
 fn write_line<O: Sink>(alloc: Global, line: &Text, out: &mut O) -> Result<(), RunFault>
-    ensures whole { OnOk result (Appends (O.written out.old) (O.written out.new) (with_end line.now)) }
-    ensures part { OnErr result (AppendsPart (O.written out.old) (O.written out.new) (with_end line.now)) }
-    ensures counted { IsErrOf result RunFault.Write → Rose (O.faults out.old) (O.faults out.new) }
-    ensures not_counted { ¬ IsErrOf result RunFault.Write → O.faults out.new ≡ O.faults out.old }
-    ensures late { O.faults out.old ≡ 0 → O.late out.old ≡ false → O.late out.new ≡ false }
+    ensures whole { OnOk result
+        (Appends (O.written out.old) (O.written out.new) (with_end line.now)) }
+    ensures part { OnErr result
+        (AppendsPart (O.written out.old) (O.written out.new) (with_end line.now)) }
+    ensures counted { IsErrOf result RunFault.Write →
+        Rose (O.faults out.old) (O.faults out.new) }
+    ensures not_counted { ¬ IsErrOf result RunFault.Write →
+        O.faults out.new ≡ O.faults out.old }
+    ensures late { O.faults out.old ≡ 0 → O.late out.old ≡ false →
+        O.late out.new ≡ false }
 {
     let Ok(bytes) = ended(alloc, line) else {
         return Err(RunFault::OutOfMemory);

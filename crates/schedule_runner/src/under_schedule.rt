@@ -34,9 +34,12 @@ pub fn run<O: Sink>(
         (text_of (output_of has_128_bits m.now sched.now.lines).lines)) }
 
     // A write that fails is the last one.
-    ensures counted { IsErrOf result RunFault.Write → Rose (O.faults out.old) (O.faults out.new) }
-    ensures not_counted { ¬ IsErrOf result RunFault.Write → O.faults out.new ≡ O.faults out.old }
-    ensures late { O.faults out.old ≡ 0 → O.late out.old ≡ false → O.late out.new ≡ false }
+    ensures counted { IsErrOf result RunFault.Write →
+        Rose (O.faults out.old) (O.faults out.new) }
+    ensures not_counted { ¬ IsErrOf result RunFault.Write →
+        O.faults out.new ≡ O.faults out.old }
+    ensures late { O.faults out.old ≡ 0 → O.late out.old ≡ false →
+        O.late out.new ≡ false }
 {
     let Ok(state) = start(alloc, m) else {
         return Err(RunFault::OutOfMemory);
@@ -58,14 +61,18 @@ fn run_on<O: Sink>(
 ) -> Result<RunEnd, RunFault>
     requires built { IsBuilt m.now state }
     requires goes { end_in state ≡ None }
-    ensures ends { IfOk result (λ end. (output has_128_bits m.now (grants_of lines.now) 0 state).ends ≡ end) }
+    ensures ends { IfOk result (λ end.
+        (output has_128_bits m.now (grants_of lines.now) 0 state).ends ≡ end) }
     ensures whole { OnOk result (Appends (O.written out.old) (O.written out.new)
         (text_of (output has_128_bits m.now (grants_of lines.now) 0 state).lines)) }
     ensures part { OnErr result (AppendsPart (O.written out.old) (O.written out.new)
         (text_of (output has_128_bits m.now (grants_of lines.now) 0 state).lines)) }
-    ensures counted { IsErrOf result RunFault.Write → Rose (O.faults out.old) (O.faults out.new) }
-    ensures not_counted { ¬ IsErrOf result RunFault.Write → O.faults out.new ≡ O.faults out.old }
-    ensures late { O.faults out.old ≡ 0 → O.late out.old ≡ false → O.late out.new ≡ false }
+    ensures counted { IsErrOf result RunFault.Write →
+        Rose (O.faults out.old) (O.faults out.new) }
+    ensures not_counted { ¬ IsErrOf result RunFault.Write →
+        O.faults out.new ≡ O.faults out.old }
+    ensures late { O.faults out.old ≡ 0 → O.late out.old ≡ false →
+        O.late out.new ≡ false }
 {
     let mut running = Running { state, last: 0 };
     match play_lines(alloc, m, &mut running, lines, out) {
