@@ -6,3 +6,4 @@ mod Plans
 mod Locks
 mod Commits
 mod Kept
+mod Running
