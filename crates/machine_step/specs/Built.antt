@@ -1,5 +1,5 @@
 -- The states that `step` does steps of so far: each thread has at most one frame, whose items have forms that are built, and whose method has no conditions.
-use Rattle.std.specs.Prelude.{◌≡◌, ⊤, List, [], ◌∷◌, All, IfSome, slice_get}
+use Rattle.std.specs.Prelude.{◌≡◌, false, ⊤, List, [], ◌∷◌, All, IfSome, slice_get}
 use Rattle.py_syntax.specs.declared.Value.{Value}
 use Rattle.py_syntax.specs.declared.Method.{Method}
 use Rattle.py_syntax.specs.declared.Module.{Module}
@@ -38,6 +38,13 @@ AreBuiltFrames m (f ∷ g ∷ below) = ⊥
 
 abbrev pub IsBuiltThread : Module → ThreadState → Type 0
 IsBuiltThread m th = AreBuiltFrames m th.frames
+
+-- a thread that hasn't ended and has one frame, whose items are built
+pub record IsRunning (th : ThreadState) : Type 0 where
+  pub unended : th.ended ≡ false
+  pub frame : Frame
+  pub frames : th.frames ≡ frame ∷ []
+  pub items : All IsBuiltItem frame.control
 
 abbrev pub IsBuilt : Module → State → Type 0
 IsBuilt m s = All (IsBuiltThread m) s.threads

@@ -2,8 +2,12 @@
 ghost use Rattle.machine_step.specs.Built.{IsBuilt};
 ghost use Rattle.machine_step.specs.Stepping.{IsStep};
 
+use crate::commit::carry_out;
 use crate::fault::StepFault;
-use machine_model::{Moved, State};
+use crate::plan::next_plan;
+use crate::stop::Stop;
+use machine_model::{Halt, Moved, State};
+use py_base::OutOfMemory;
 use py_syntax::Module;
 use std::alloc::Global;
 
@@ -13,5 +17,15 @@ pub fn step(alloc: Global, m: &Module, s: &mut State, thread: u32) -> Result<Mov
     ensures step { IsStep m.now s.old thread result s.new }
     ensures built { IsBuilt m.now s.new }
 {
-    Err(StepFault::OutOfMemory)
+    match next_plan(alloc, m, s, thread) {
+        Ok(plan) => match carry_out(alloc, plan, s, thread) {
+            Ok(trace) => Ok(Moved::Went(trace)),
+            Err(OutOfMemory) => Err(StepFault::OutOfMemory),
+        },
+        Err(Stop::Halt(Halt::Failed(kind, place))) => Ok(Moved::Failed(kind, place)),
+        Err(Stop::Halt(Halt::Wide(place))) => Err(StepFault::IntTooLarge(place)),
+        Err(Stop::Halt(Halt::Waits)) => Ok(Moved::Same),
+        Err(Stop::Halt(Halt::NoOperand)) => Ok(Moved::Same),
+        Err(Stop::OutOfMemory) => Err(StepFault::OutOfMemory),
+    }
 }

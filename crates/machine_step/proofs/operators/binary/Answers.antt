@@ -1,0 +1,11 @@
+use Rattle.std.proofs.Common.{◌≡◌, FitsSigned, rules}
+use Rattle.std.specs.Int.{w128}
+use Rattle.py_syntax.specs.declared.Value.TheVariants.{Num}
+use Rattle.machine_step.proofs.Floors.{numbers_agree}
+use Rattle.machine_step.proofs.operators.binary.Goals as goal
+
+pub returns-in-Num-Num : goal.returns-in-Num-Num
+returns-in-Num-Num c =
+    let left : FitsSigned w128 c.in-Num-Num.x = search rules in
+    let right : FitsSigned w128 c.in-Num-Num.y = search rules in
+    numbers_agree c.args.p c.args.key c.args.a c.args.b c.in-Num-Num.x c.in-Num-Num.y c.on_numbers.result c.in-Num-Num.is-0 c.in-Num-Num.is-1 left right c.on_numbers.ensures
