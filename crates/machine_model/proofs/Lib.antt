@@ -4,3 +4,4 @@ mod Eleven
 mod ElevenSteps
 mod ReplacedSteps
 mod Trees
+mod Stacks

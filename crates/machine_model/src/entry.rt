@@ -3,6 +3,7 @@ ghost use Rattle.std.specs.Prelude.{◌≡◌, None, replicate, slice_get, IfOk}
 ghost use Rattle.machine_model.specs.Steps.{first_frame, first_frames, first_state};
 
 use crate::control::method_control;
+use crate::slots::Slots;
 use crate::stack::Stack;
 use crate::state::{Frame, State, ThreadState};
 use py_base::OutOfMemory;
@@ -14,7 +15,7 @@ use std::alloc::Global;
 pub fn start(alloc: Global, m: &Module) -> Result<State, OutOfMemory>
     ensures { IfOk result (λ s. s ≡ first_state m.now) }
 {
-    let mut threads = Items::new(alloc);
+    let mut threads = Slots::new(alloc);
     threads.push(ThreadState {
         frames: frames_of_main(alloc, m)?,
         own: None,

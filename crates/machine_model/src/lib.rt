@@ -8,6 +8,7 @@ mod fields;
 mod halt;
 mod laws;
 mod moved;
+mod slots;
 mod stack;
 mod state;
 
@@ -20,6 +21,7 @@ pub use laws::{
     an_exception_in_finally_replaces_the_pending_one, the_smallest_module_takes_eleven_steps,
 };
 pub use moved::Moved;
+pub use slots::Slots;
 pub use stack::Stack;
 pub use state::{Frame, LockState, Object, State, ThreadState};
 

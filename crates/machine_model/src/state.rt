@@ -1,5 +1,6 @@
 // States of a run.
 use crate::fields::Fields;
+use crate::slots::Slots;
 use crate::stack::Stack;
 use py_syntax::{Item, Value};
 use sqlite_items::Items;
@@ -50,5 +51,5 @@ pub struct ThreadState {
 #[derive(Debug, Drop)]
 pub struct State {
     pub heap: Items<Object>,
-    pub threads: Items<ThreadState>,
+    pub threads: Slots<ThreadState>,
 }

@@ -108,7 +108,7 @@ fn a_run_starts_with_the_items_of_main_in_turn(rt: HostRuntime) -> Result<(), Fa
     let Some(mut thread) = threads.pop() else {
         return Err(Fail::from("no thread"));
     };
-    assert!(rt; threads.is_empty());
+    assert!(rt; threads.pop().is_none());
     assert_eq!(rt; thread.own, None);
     assert!(rt; !thread.ended);
     let Some(mut frame) = thread.frames.pop() else {

@@ -1,0 +1,4 @@
+pub mod Bits
+pub mod Stepping
+pub mod Built
+pub mod SmallForms

@@ -1,0 +1,4 @@
+pub mod ScheduleText
+pub mod Reading
+pub mod Output
+pub mod Playing
