@@ -6,7 +6,8 @@ use Rattle.io_edge.specs.Outside.{Held, held_at, AppendsPart}
 use Rattle.py_base.specs.declared.OutOfMemory.{OutOfMemory}
 use Rattle.nagini_cli.specs.declared.reply.Reply.{Reply}
 use Rattle.nagini_cli.specs.declared.status.TheConstants.{READ_FAULT, USAGE}
-use Rattle.nagini_cli.specs.Answers.{Answers, ChecksFile, Allowed, usage, check, AsksFor, IsAnswer}
+use Rattle.nagini_cli.specs.Allowed.{ChecksFile, Allowed, usage, check, AsksFor}
+use Rattle.nagini_cli.specs.Answers.{Answers, IsAnswer}
 use Rattle.nagini_cli.specs.Commands.{Check, command_of}
 use Rattle.nagini_cli.specs.Replies.{text_of, Says}
 use Rattle.nagini_cli.specs.Statuses.{IsQuiet, IsAnswered}

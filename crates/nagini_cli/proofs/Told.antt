@@ -4,7 +4,8 @@ use Rattle.std.proofs.lemmas.List.{length-replicate}
 use Rattle.std.specs.Prelude.{codes}
 use Rattle.io_edge.specs.Outside.{Held, held_at, IsTooLong}
 use Rattle.nagini_cli.specs.Texts.{limit_line}
-use Rattle.nagini_cli.specs.Answers.{too_long, ChecksFile, answered}
+use Rattle.nagini_cli.specs.Allowed.{ChecksFile, answered}
+use Rattle.nagini_cli.specs.Answers.{too_long}
 use Rattle.nagini_cli.specs.declared.status.TheConstants.{LIMIT}
 use Rattle.nagini_cli.specs.declared.check.TheConstants.{FILE_LIMIT}
 

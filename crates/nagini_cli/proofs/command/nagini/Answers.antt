@@ -6,45 +6,45 @@ use Rattle.nagini_cli.proofs.Verdicts.{accepted_of, not_proved_of}
 use Rattle.nagini_cli.proofs.Replied.{whole_of, part_of, told_of, usage_part_of, read_fault_of, row_of}
 use Rattle.nagini_cli.proofs.command.nagini.Goals as goal
 
-pub returns-in-Some-clause-whole : goal.returns-in-Some-clause-whole
-returns-in-Some-clause-whole g c = λ quiet.
-    whole_of c.check.result _ _ c.in-Some.file.now _ _ _ (sym c.in-Some.ensures) c.check.ensures.whole (c.finish.ensures.whole quiet)
+pub returns-in-Some-Check-clause-whole : goal.returns-in-Some-Check-clause-whole
+returns-in-Some-Check-clause-whole g c = λ quiet.
+    whole_of c.check.result _ _ c.in-Some-Check.file.now _ _ _ (sym c.in-Some-Check.ensures) c.check.ensures.whole (c.finish.ensures.whole quiet)
 
-pub returns-in-Some-clause-part : goal.returns-in-Some-clause-part
-returns-in-Some-clause-part g c = λ cut.
-    part_of _ c.check.result _ _ c.in-Some.file.now _ _ (sym c.in-Some.ensures) c.check.ensures.whole (IfOk-weaker c.check.result _ _ (λ r promised is. (promised is).0) c.check.ensures.read_fault) (c.finish.ensures.part cut) c.finish.ensures.nothing
+pub returns-in-Some-Check-clause-part : goal.returns-in-Some-Check-clause-part
+returns-in-Some-Check-clause-part g c = λ cut.
+    part_of _ c.check.result _ _ c.in-Some-Check.file.now _ _ (sym c.in-Some-Check.ensures) c.check.ensures.whole (IfOk-weaker c.check.result _ _ (λ r promised is. (promised is).0) c.check.ensures.read_fault) (c.finish.ensures.part cut) c.finish.ensures.nothing
 
-pub returns-in-Some-clause-read_fault : goal.returns-in-Some-clause-read_fault
-returns-in-Some-clause-read_fault g c = λ is.
-    let fault = read_fault_of _ _ c.check.result c.in-Some.file.now c.finish.result _ _ c.check.ensures.read_fault (c.finish.ensures.whole (λ e. omega (arith, is, e), λ e. omega (arith, is, e))) is in
-    (c.in-Some.file.now, sym c.in-Some.ensures, fault.0, fault.1, fault.2)
+pub returns-in-Some-Check-clause-read_fault : goal.returns-in-Some-Check-clause-read_fault
+returns-in-Some-Check-clause-read_fault g c = λ is.
+    let fault = read_fault_of _ _ c.check.result c.in-Some-Check.file.now c.finish.result _ _ c.check.ensures.read_fault (c.finish.ensures.whole (λ e. omega (arith, is, e), λ e. omega (arith, is, e))) is in
+    (c.in-Some-Check.file.now, sym c.in-Some-Check.ensures, fault.0, fault.1, fault.2)
 
-pub returns-in-Some-clause-no_main : goal.returns-in-Some-clause-no_main
-returns-in-Some-clause-no_main g c = λ bytes asks is_answered within skipped.
-    row_of c.check.result _ _ c.in-Some.file.now _ _ _ (sym c.in-Some.ensures) c.check.ensures.told c.finish.ensures.whole bytes _ _ asks is_answered (no_main within skipped refl refl)
+pub returns-in-Some-Check-clause-no_main : goal.returns-in-Some-Check-clause-no_main
+returns-in-Some-Check-clause-no_main g c = λ bytes asks is_answered within skipped.
+    row_of c.check.result _ _ c.in-Some-Check.file.now _ _ _ (sym c.in-Some-Check.ensures) c.check.ensures.told c.finish.ensures.whole bytes _ _ asks is_answered (no_main within skipped refl refl)
 
-pub returns-in-Some-clause-not_built : goal.returns-in-Some-clause-not_built
-returns-in-Some-clause-not_built g c = λ bytes i asks is_answered within stops.
-    row_of c.check.result _ _ c.in-Some.file.now _ _ _ (sym c.in-Some.ensures) c.check.ensures.told c.finish.ensures.whole bytes _ _ asks is_answered (not_built within i stops refl refl)
+pub returns-in-Some-Check-clause-not_built : goal.returns-in-Some-Check-clause-not_built
+returns-in-Some-Check-clause-not_built g c = λ bytes i asks is_answered within stops.
+    row_of c.check.result _ _ c.in-Some-Check.file.now _ _ _ (sym c.in-Some-Check.ensures) c.check.ensures.told c.finish.ensures.whole bytes _ _ asks is_answered (not_built within i stops refl refl)
 
-pub returns-in-Some-clause-accepts : goal.returns-in-Some-clause-accepts
-returns-in-Some-clause-accepts g c = λ bytes m asks is_answered within spelled none.
-    row_of c.check.result _ _ c.in-Some.file.now _ _ _ (sym c.in-Some.ensures) c.check.ensures.told c.finish.ensures.whole bytes _ _ asks is_answered (accepted within m spelled none refl refl)
+pub returns-in-Some-Check-clause-accepts : goal.returns-in-Some-Check-clause-accepts
+returns-in-Some-Check-clause-accepts g c = λ bytes m asks is_answered within spelled none.
+    row_of c.check.result _ _ c.in-Some-Check.file.now _ _ _ (sym c.in-Some-Check.ensures) c.check.ensures.told c.finish.ensures.whole bytes _ _ asks is_answered (accepted within m spelled none refl refl)
 
-pub returns-in-Some-clause-accepted : goal.returns-in-Some-clause-accepted
-returns-in-Some-clause-accepted g c = λ bytes asks is.
-    let answer = told_of c.check.result _ _ c.in-Some.file.now bytes _ _ _ (sym c.in-Some.ensures) c.check.ensures.told (c.finish.ensures.whole (λ e. omega (arith, is, e), λ e. omega (arith, is, e))) asks (λ e. omega (arith, is, e)) in
+pub returns-in-Some-Check-clause-accepted : goal.returns-in-Some-Check-clause-accepted
+returns-in-Some-Check-clause-accepted g c = λ bytes asks is.
+    let answer = told_of c.check.result _ _ c.in-Some-Check.file.now bytes _ _ _ (sym c.in-Some-Check.ensures) c.check.ensures.told (c.finish.ensures.whole (λ e. omega (arith, is, e), λ e. omega (arith, is, e))) asks (λ e. omega (arith, is, e)) in
     accepted_of c.no_local_fault_is_safe.ensures bytes _ _ is answer.1.answers
 
-pub returns-in-Some-clause-not_proved : goal.returns-in-Some-clause-not_proved
-returns-in-Some-clause-not_proved g c = λ bytes asks is.
-    let answer = told_of c.check.result _ _ c.in-Some.file.now bytes _ _ _ (sym c.in-Some.ensures) c.check.ensures.told (c.finish.ensures.whole (λ e. omega (arith, is, e), λ e. omega (arith, is, e))) asks (λ e. omega (arith, is, e)) in
+pub returns-in-Some-Check-clause-not_proved : goal.returns-in-Some-Check-clause-not_proved
+returns-in-Some-Check-clause-not_proved g c = λ bytes asks is.
+    let answer = told_of c.check.result _ _ c.in-Some-Check.file.now bytes _ _ _ (sym c.in-Some-Check.ensures) c.check.ensures.told (c.finish.ensures.whole (λ e. omega (arith, is, e), λ e. omega (arith, is, e))) asks (λ e. omega (arith, is, e)) in
     not_proved_of _ _ bytes _ _ is answer.1.answers answer.2
 
-pub returns-in-Some-clause-reports : goal.returns-in-Some-clause-reports
-returns-in-Some-clause-reports g c = λ bytes m f asks is_answered within spelled fault.
+pub returns-in-Some-Check-clause-reports : goal.returns-in-Some-Check-clause-reports
+returns-in-Some-Check-clause-reports g c = λ bytes m f asks is_answered within spelled fault.
     let place = first_fault bytes m f spelled fault in
-    let row = row_of c.check.result _ _ c.in-Some.file.now _ _ _ (sym c.in-Some.ensures) c.check.ensures.told c.finish.ensures.whole bytes _ _ asks is_answered (not_proved within m _ _ spelled place refl refl) in
+    let row = row_of c.check.result _ _ c.in-Some-Check.file.now _ _ _ (sym c.in-Some-Check.ensures) c.check.ensures.told c.finish.ensures.whole bytes _ _ asks is_answered (not_proved within m _ _ spelled place refl refl) in
     (row.0, (_, place, row.1))
 
 pub returns-in-None-clause-part : goal.returns-in-None-clause-part
