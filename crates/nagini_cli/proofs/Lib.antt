@@ -13,3 +13,4 @@ pub mod Verdicts
 pub mod FirstState
 pub mod OneRunAnswer
 pub mod ToldRun
+pub mod Prepares

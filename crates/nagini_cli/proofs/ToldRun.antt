@@ -177,19 +177,19 @@ run_is_told law words held file schedule status old new is allowed = record {
 
 -- other words ask for no run
 pub reads_nothing : (words : List (List ℕ)) (held : Option Held) (status : ℕ) (old new : Option (List ℕ)) → ((file schedule : List ℕ) → command_of words ≢ Some (Run file schedule)) → ReadsInOrder words held status old new
-reads_nothing words held status old new no = record {
-  file_not_held = λ f g files command. absurd (no f g command);
-  file_too_long = λ f g bytes files command. absurd (no f g command);
-  schedule_not_held = λ f g files command. absurd (no f g command);
+reads_nothing words held status old new other = record {
+  file_not_held = λ f g files command. absurd (other f g command);
+  file_too_long = λ f g bytes files command. absurd (other f g command);
+  schedule_not_held = λ f g files command. absurd (other f g command);
 }
 
 pub no_run_is_told : (words : List (List ℕ)) (held : Option Held) (status : ℕ) (old new : Option (List ℕ)) → ((file schedule : List ℕ) → command_of words ≢ Some (Run file schedule)) → RunIsTold words held status old new
-no_run_is_told words held status old new no = record {
-  told = λ bytes script asks. absurd (no asks.file asks.schedule asks.command);
-  no_main = λ bytes script asks. absurd (no asks.file asks.schedule asks.command);
-  not_built = λ bytes script i asks. absurd (no asks.file asks.schedule asks.command);
-  bad_schedule = λ bytes script m n asks. absurd (no asks.file asks.schedule asks.command);
-  too_many_steps = λ bytes script m all asks. absurd (no asks.file asks.schedule asks.command);
-  plays = λ bytes script m all asks. absurd (no asks.file asks.schedule asks.command);
-  played = λ bytes script asks. absurd (no asks.file asks.schedule asks.command);
+no_run_is_told words held status old new other = record {
+  told = λ bytes script asks. absurd (other asks.file asks.schedule asks.command);
+  no_main = λ bytes script asks. absurd (other asks.file asks.schedule asks.command);
+  not_built = λ bytes script i asks. absurd (other asks.file asks.schedule asks.command);
+  bad_schedule = λ bytes script m n asks. absurd (other asks.file asks.schedule asks.command);
+  too_many_steps = λ bytes script m all asks. absurd (other asks.file asks.schedule asks.command);
+  plays = λ bytes script m all asks. absurd (other asks.file asks.schedule asks.command);
+  played = λ bytes script asks. absurd (other asks.file asks.schedule asks.command);
 }
