@@ -14,3 +14,4 @@ pub mod FirstState
 pub mod OneRunAnswer
 pub mod ToldRun
 pub mod Prepares
+pub mod Plays

@@ -38,6 +38,12 @@ answer_below bytes script s x (runs short m all spelled reads few a b) = below s
     below : (s n : ℕ) → s ≡ n → n < 7 → s < 8
     below s n e h = omega arith
 
+pub no_fault_ends : (m : Module) (all : List ScheduleLine) → run_status m all ≡ READ_FAULT → ⊥
+no_fault_ends m all e = apart (run_status m all) (end_below (run_of m all).ends) e
+  where
+    apart : (n : ℕ) → n < 7 → n ≡ READ_FAULT → ⊥
+    apart n below e = omega arith
+
 -- neither want of memory nor a write fault nor usage is answered for files
 pub files_status : (held : Option Held) (file schedule : List ℕ) (s : ℕ) (x : List ℕ) → RunsFiles held file schedule s x → (s < 8) ⊎ (s ≡ READ_FAULT)
 files_status held file schedule s x (file_fault a b) = inr a

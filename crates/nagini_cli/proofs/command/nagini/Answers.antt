@@ -1,4 +1,4 @@
-use Rattle.std.proofs.Common.{Some, sym, refl, ap, ◌∙◌, arith}
+use Rattle.std.proofs.Common.{Some, map, string_bytes, sym, refl, ap, ◌∙◌, arith}
 use Rattle.std.proofs.lemmas.Result.{IfOk-weaker}
 use Rattle.nagini_cli.specs.declared.words.Command.{Command as Told}
 use Rattle.nagini_cli.specs.Allowed.{run}
@@ -56,16 +56,16 @@ returns-in-None-clause-part g c = λ cut.
     usage_part_of _ c.usage.result _ _ _ _ (sym c.in-None.ensures) c.usage.ensures (c.finish-in-None.ensures.part cut) c.finish-in-None.ensures.nothing
 
 pub returns-in-Some-Check-clause-reads_in_order : goal.returns-in-Some-Check-clause-reads_in_order
-returns-in-Some-Check-clause-reads_in_order g c = reads_nothing _ _ _ _ _ (not_run _ c.in-Some-Check.file.now (sym c.in-Some-Check.ensures ∙ ap (λ (t : Told). Some (command_in t)) c.in-Some-Check.field-0-is))
+returns-in-Some-Check-clause-reads_in_order g c = reads_nothing _ _ _ _ _ (not_run (map string_bytes c.args.words.now) c.in-Some-Check.file.now (sym c.in-Some-Check.ensures ∙ ap (λ (t : Told). Some (command_in t)) c.in-Some-Check.field-0-is))
 
 pub returns-in-Some-Check-clause-run_told : goal.returns-in-Some-Check-clause-run_told
-returns-in-Some-Check-clause-run_told g c = no_run_is_told _ _ _ _ _ (not_run _ c.in-Some-Check.file.now (sym c.in-Some-Check.ensures ∙ ap (λ (t : Told). Some (command_in t)) c.in-Some-Check.field-0-is))
+returns-in-Some-Check-clause-run_told g c = no_run_is_told _ _ _ _ _ (not_run (map string_bytes c.args.words.now) c.in-Some-Check.file.now (sym c.in-Some-Check.ensures ∙ ap (λ (t : Told). Some (command_in t)) c.in-Some-Check.field-0-is))
 
 pub returns-in-None-clause-reads_in_order : goal.returns-in-None-clause-reads_in_order
-returns-in-None-clause-reads_in_order g c = reads_nothing _ _ _ _ _ (no_run _ (sym c.in-None.ensures))
+returns-in-None-clause-reads_in_order g c = reads_nothing _ _ _ _ _ (no_run (map string_bytes c.args.words.now) (sym c.in-None.ensures))
 
 pub returns-in-None-clause-run_told : goal.returns-in-None-clause-run_told
-returns-in-None-clause-run_told g c = no_run_is_told _ _ _ _ _ (no_run _ (sym c.in-None.ensures))
+returns-in-None-clause-run_told g c = no_run_is_told _ _ _ _ _ (no_run (map string_bytes c.args.words.now) (sym c.in-None.ensures))
 
 pub returns-in-Some-Run-clause-whole : goal.returns-in-Some-Run-clause-whole
 returns-in-Some-Run-clause-whole g c = λ quiet.
@@ -91,31 +91,31 @@ pub returns-in-Some-Run-clause-run_told : goal.returns-in-Some-Run-clause-run_to
 returns-in-Some-Run-clause-run_told g c = run_is_told c.a_run_has_one_answer.ensures.one _ _ c.in-Some-Run.file.now c.in-Some-Run.schedule.now _ _ _ (sym c.in-Some-Run.ensures ∙ ap (λ (t : Told). Some (command_in t)) c.in-Some-Run.field-0-is) c.run_files.ensures.whole
 
 pub returns-in-Some-Run-clause-told : goal.returns-in-Some-Run-clause-told
-returns-in-Some-Run-clause-told g c = λ bytes asks _. absurd (not_check _ c.in-Some-Run.file.now c.in-Some-Run.schedule.now (sym c.in-Some-Run.ensures ∙ ap (λ (t : Told). Some (command_in t)) c.in-Some-Run.field-0-is) asks.file asks.command)
+returns-in-Some-Run-clause-told g c = λ bytes asks _. absurd (not_check (map string_bytes c.args.words.now) c.in-Some-Run.file.now c.in-Some-Run.schedule.now (sym c.in-Some-Run.ensures ∙ ap (λ (t : Told). Some (command_in t)) c.in-Some-Run.field-0-is) asks.file asks.command)
 
 pub returns-in-Some-Run-clause-limit : goal.returns-in-Some-Run-clause-limit
-returns-in-Some-Run-clause-limit g c = λ bytes asks _. absurd (not_check _ c.in-Some-Run.file.now c.in-Some-Run.schedule.now (sym c.in-Some-Run.ensures ∙ ap (λ (t : Told). Some (command_in t)) c.in-Some-Run.field-0-is) asks.file asks.command)
+returns-in-Some-Run-clause-limit g c = λ bytes asks _. absurd (not_check (map string_bytes c.args.words.now) c.in-Some-Run.file.now c.in-Some-Run.schedule.now (sym c.in-Some-Run.ensures ∙ ap (λ (t : Told). Some (command_in t)) c.in-Some-Run.field-0-is) asks.file asks.command)
 
 pub returns-in-Some-Run-clause-refused : goal.returns-in-Some-Run-clause-refused
-returns-in-Some-Run-clause-refused g c = λ bytes asks _. absurd (not_check _ c.in-Some-Run.file.now c.in-Some-Run.schedule.now (sym c.in-Some-Run.ensures ∙ ap (λ (t : Told). Some (command_in t)) c.in-Some-Run.field-0-is) asks.file asks.command)
+returns-in-Some-Run-clause-refused g c = λ bytes asks _. absurd (not_check (map string_bytes c.args.words.now) c.in-Some-Run.file.now c.in-Some-Run.schedule.now (sym c.in-Some-Run.ensures ∙ ap (λ (t : Told). Some (command_in t)) c.in-Some-Run.field-0-is) asks.file asks.command)
 
 pub returns-in-Some-Run-clause-no_main : goal.returns-in-Some-Run-clause-no_main
-returns-in-Some-Run-clause-no_main g c = λ bytes asks _ _ _. absurd (not_check _ c.in-Some-Run.file.now c.in-Some-Run.schedule.now (sym c.in-Some-Run.ensures ∙ ap (λ (t : Told). Some (command_in t)) c.in-Some-Run.field-0-is) asks.file asks.command)
+returns-in-Some-Run-clause-no_main g c = λ bytes asks _ _ _. absurd (not_check (map string_bytes c.args.words.now) c.in-Some-Run.file.now c.in-Some-Run.schedule.now (sym c.in-Some-Run.ensures ∙ ap (λ (t : Told). Some (command_in t)) c.in-Some-Run.field-0-is) asks.file asks.command)
 
 pub returns-in-Some-Run-clause-not_built : goal.returns-in-Some-Run-clause-not_built
-returns-in-Some-Run-clause-not_built g c = λ bytes i asks _ _ _. absurd (not_check _ c.in-Some-Run.file.now c.in-Some-Run.schedule.now (sym c.in-Some-Run.ensures ∙ ap (λ (t : Told). Some (command_in t)) c.in-Some-Run.field-0-is) asks.file asks.command)
+returns-in-Some-Run-clause-not_built g c = λ bytes i asks _ _ _. absurd (not_check (map string_bytes c.args.words.now) c.in-Some-Run.file.now c.in-Some-Run.schedule.now (sym c.in-Some-Run.ensures ∙ ap (λ (t : Told). Some (command_in t)) c.in-Some-Run.field-0-is) asks.file asks.command)
 
 pub returns-in-Some-Run-clause-accepted : goal.returns-in-Some-Run-clause-accepted
-returns-in-Some-Run-clause-accepted g c = λ bytes asks _. absurd (not_check _ c.in-Some-Run.file.now c.in-Some-Run.schedule.now (sym c.in-Some-Run.ensures ∙ ap (λ (t : Told). Some (command_in t)) c.in-Some-Run.field-0-is) asks.file asks.command)
+returns-in-Some-Run-clause-accepted g c = λ bytes asks _. absurd (not_check (map string_bytes c.args.words.now) c.in-Some-Run.file.now c.in-Some-Run.schedule.now (sym c.in-Some-Run.ensures ∙ ap (λ (t : Told). Some (command_in t)) c.in-Some-Run.field-0-is) asks.file asks.command)
 
 pub returns-in-Some-Run-clause-accepts : goal.returns-in-Some-Run-clause-accepts
-returns-in-Some-Run-clause-accepts g c = λ bytes m asks _ _ _ _. absurd (not_check _ c.in-Some-Run.file.now c.in-Some-Run.schedule.now (sym c.in-Some-Run.ensures ∙ ap (λ (t : Told). Some (command_in t)) c.in-Some-Run.field-0-is) asks.file asks.command)
+returns-in-Some-Run-clause-accepts g c = λ bytes m asks _ _ _ _. absurd (not_check (map string_bytes c.args.words.now) c.in-Some-Run.file.now c.in-Some-Run.schedule.now (sym c.in-Some-Run.ensures ∙ ap (λ (t : Told). Some (command_in t)) c.in-Some-Run.field-0-is) asks.file asks.command)
 
 pub returns-in-Some-Run-clause-not_proved : goal.returns-in-Some-Run-clause-not_proved
-returns-in-Some-Run-clause-not_proved g c = λ bytes asks _. absurd (not_check _ c.in-Some-Run.file.now c.in-Some-Run.schedule.now (sym c.in-Some-Run.ensures ∙ ap (λ (t : Told). Some (command_in t)) c.in-Some-Run.field-0-is) asks.file asks.command)
+returns-in-Some-Run-clause-not_proved g c = λ bytes asks _. absurd (not_check (map string_bytes c.args.words.now) c.in-Some-Run.file.now c.in-Some-Run.schedule.now (sym c.in-Some-Run.ensures ∙ ap (λ (t : Told). Some (command_in t)) c.in-Some-Run.field-0-is) asks.file asks.command)
 
 pub returns-in-Some-Run-clause-reports : goal.returns-in-Some-Run-clause-reports
-returns-in-Some-Run-clause-reports g c = λ bytes m f asks _ _ _ _. absurd (not_check _ c.in-Some-Run.file.now c.in-Some-Run.schedule.now (sym c.in-Some-Run.ensures ∙ ap (λ (t : Told). Some (command_in t)) c.in-Some-Run.field-0-is) asks.file asks.command)
+returns-in-Some-Run-clause-reports g c = λ bytes m f asks _ _ _ _. absurd (not_check (map string_bytes c.args.words.now) c.in-Some-Run.file.now c.in-Some-Run.schedule.now (sym c.in-Some-Run.ensures ∙ ap (λ (t : Told). Some (command_in t)) c.in-Some-Run.field-0-is) asks.file asks.command)
 
 pub returns-in-Some-Run-clause-not_held : goal.returns-in-Some-Run-clause-not_held
-returns-in-Some-Run-clause-not_held g c = λ file files command _ _ _. absurd (not_check _ c.in-Some-Run.file.now c.in-Some-Run.schedule.now (sym c.in-Some-Run.ensures ∙ ap (λ (t : Told). Some (command_in t)) c.in-Some-Run.field-0-is) file command)
+returns-in-Some-Run-clause-not_held g c = λ file files command _ _ _. absurd (not_check (map string_bytes c.args.words.now) c.in-Some-Run.file.now c.in-Some-Run.schedule.now (sym c.in-Some-Run.ensures ∙ ap (λ (t : Told). Some (command_in t)) c.in-Some-Run.field-0-is) file command)

@@ -10,7 +10,7 @@ use Rattle.nagini_cli.proofs.prepare.prepare.Goals as goal
 pub returns-in-Ok-clause-no_read_fault : goal.returns-in-Ok-clause-no_read_fault
 returns-in-Ok-clause-no_read_fault g c =
     IfOk-weaker c.prepare_with.result _ _
-    (λ p kept read. let same = kept read in (same.0 ∙ c.in-Ok.ensures.not_counted (λ e. absurd e), same.1 ∙ c.in-Ok.ensures.not_named (λ e. absurd e)))
+    (λ p kept read. let same = kept read in (same.0 ∙ c.in-Ok.ensures.not_counted (λ e. cc), same.1 ∙ c.in-Ok.ensures.not_named (λ e. cc)))
     c.prepare_with.ensures.no_read_fault
 
 pub returns-in_ok-too_long-in-Err-TooLong-clause-whole : goal.returns-in_ok-too_long-in-Err-TooLong-clause-whole
