@@ -10,3 +10,8 @@ pub mod LocalRuns
 pub mod SmallShapes
 pub mod Faults
 pub mod Verdicts
+pub mod FirstState
+pub mod OneRunAnswer
+pub mod ToldRun
+pub mod Prepares
+pub mod Plays

@@ -4,7 +4,8 @@ use Rattle.std.proofs.lemmas.List.{length-replicate}
 use Rattle.std.specs.Prelude.{codes}
 use Rattle.io_edge.specs.Outside.{Held, held_at, IsTooLong}
 use Rattle.nagini_cli.specs.Texts.{limit_line}
-use Rattle.nagini_cli.specs.Answers.{too_long, ChecksFile, answered}
+use Rattle.nagini_cli.specs.Allowed.{ChecksFile, IsHeldAs, answered}
+use Rattle.nagini_cli.specs.Answers.{too_long}
 use Rattle.nagini_cli.specs.declared.status.TheConstants.{LIMIT}
 use Rattle.nagini_cli.specs.declared.check.TheConstants.{FILE_LIMIT}
 
@@ -22,3 +23,14 @@ ChecksFile-too_long None name status text long x y =
     let some : (bytes : List ℕ) × (FILE_LIMIT < length bytes) = longer FILE_LIMIT in
     answered some.0 tt (too_long some.1 x y)
 ChecksFile-too_long (Some files) name status text long x y = held_too_long files name status text (held_at files name) refl long x y
+
+long_at : (files : Held) (name : List ℕ) (found : Option (List ℕ)) → held_at files name ≡ found → IsTooLong FILE_LIMIT found → (bytes : List ℕ) × IsHeldAs (Some files) name bytes × (FILE_LIMIT < length bytes)
+long_at files name None is long = absurd long
+long_at files name (Some bytes) is long = (bytes, is, long)
+
+-- some bytes of a file that is too long
+pub long_bytes : (held : Option Held) (name : List ℕ) → IfSome held (λ files. IsTooLong FILE_LIMIT (held_at files name)) → (bytes : List ℕ) × IsHeldAs held name bytes × (FILE_LIMIT < length bytes)
+long_bytes None name long =
+    let some : (bytes : List ℕ) × (FILE_LIMIT < length bytes) = longer FILE_LIMIT in
+    (some.0, tt, some.1)
+long_bytes (Some files) name long = long_at files name (held_at files name) refl long

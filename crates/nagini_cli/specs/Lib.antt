@@ -6,3 +6,7 @@ pub mod Replies
 pub mod Commands
 pub mod Reports
 pub mod Answers
+pub mod RunAnswers
+pub mod Allowed
+pub mod Preparing
+pub mod RunTold

@@ -5,7 +5,8 @@ ghost use Rattle.py_base.specs.declared.Place.{Place};
 ghost use Rattle.py_syntax.specs.declared.Module.{Module};
 ghost use Rattle.nagini_cli.specs.SmallBody.{IsSmallModule};
 ghost use Rattle.nagini_cli.specs.SmallRun as small_run;
-ghost use Rattle.nagini_cli.specs.Answers.{IsAnswer, ChecksFile};
+ghost use Rattle.nagini_cli.specs.Allowed.{ChecksFile};
+ghost use Rattle.nagini_cli.specs.Answers.{IsAnswer};
 ghost use Rattle.nagini_cli.specs.SmallRun.{IsVerdict, false_assert_text};
 ghost use Rattle.nagini_cli.specs.Replies.{Says, text_of};
 ghost use Rattle.nagini_cli.specs.Texts as texts;
@@ -52,13 +53,15 @@ pub fn check<F: Files>(alloc: Global, name: &str, files: &mut F) -> Result<Reply
     }
 }
 
-fn too_long(alloc: Global) -> Result<Reply, OutOfMemory>
+/// The reply where a file has too many bytes.
+pub fn too_long(alloc: Global) -> Result<Reply, OutOfMemory>
     ensures { IfOk result (λ r. Says r LIMIT (texts.limit_line (codes "file"))) }
 {
     Ok(Reply::one(alloc, LIMIT, limit_line(alloc, "file")?)?)
 }
 
-fn read_fault(alloc: Global, name: &str) -> Result<Reply, OutOfMemory>
+/// The reply where the read of a file failed.
+pub fn read_fault(alloc: Global, name: &str) -> Result<Reply, OutOfMemory>
     ensures { IfOk result (λ r. Says r READ_FAULT (texts.read_fault_line name.now)) }
 {
     Ok(Reply::one(alloc, READ_FAULT, read_fault_line(alloc, name)?)?)
@@ -77,7 +80,8 @@ fn answer(alloc: Global, bytes: &[u8]) -> Result<Reply, OutOfMemory>
     }
 }
 
-fn refuse(alloc: Global, name: &str, place: Place) -> Result<Reply, OutOfMemory>
+/// The reply where a text is refused at a place.
+pub fn refuse(alloc: Global, name: &str, place: Place) -> Result<Reply, OutOfMemory>
     ensures { IfOk result (λ r. Says r REFUSED (texts.refusal_line name.now place)) }
 {
     Ok(Reply::one(alloc, REFUSED, refusal_line(alloc, name, place)?)?)

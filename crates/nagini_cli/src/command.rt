@@ -9,18 +9,23 @@ ghost use Rattle.py_syntax.specs.Findings.{Finding};
 ghost use Rattle.py_syntax.specs.SmallLocal.{IsLocalFault, HasNoLocalFault};
 ghost use Rattle.py_front.specs.TextLines.{lines_of, AreSkipped};
 ghost use Rattle.py_front.specs.SmallText.{Spells, StopsAt, line_start, end_of};
-ghost use Rattle.nagini_cli.specs.Answers.{Allowed, AsksFor, IsAnswer};
+ghost use Rattle.nagini_cli.specs.Allowed.{Allowed, AsksFor};
+ghost use Rattle.nagini_cli.specs.Answers.{IsAnswer};
 ghost use Rattle.nagini_cli.specs.Commands as commands;
-ghost use Rattle.nagini_cli.specs.Commands.{Check, command_of};
+ghost use Rattle.nagini_cli.specs.Commands.{Check, Names, command_of};
 ghost use Rattle.nagini_cli.specs.Replies.{Says};
 ghost use Rattle.nagini_cli.specs.Reports.{AreLocalFaults, report_text};
+ghost use Rattle.nagini_cli.specs.RunTold.{ReadsInOrder, RunIsTold};
 ghost use Rattle.nagini_cli.specs.Statuses.{IsAnswered, IsCutShort, IsQuiet};
 ghost use Rattle.nagini_cli.specs.Texts as texts;
 
 use crate::check::{FILE_LIMIT, check};
+use crate::laws::a_run_has_one_answer;
 use crate::reply::{Reply, finish};
+use crate::run::run_files;
 use crate::status::{ACCEPTED, LIMIT, NOT_PROVED, READ_FAULT, REFUSED, USAGE, WRITE_FAULT};
 use crate::texts::usage_line;
+use crate::words::{Command, read_command};
 use io_edge::{Files, Sink};
 use perm_sound::no_local_fault_is_safe;
 use py_base::OutOfMemory;
@@ -47,9 +52,10 @@ pub fn nagini<F: Files, O: Sink>(alloc: Global, words: &[String], files: &mut F,
         (result ≡ USAGE) × Appends (O.written out.old) (O.written out.new) texts.usage_line }
     ensures unread { command_of (map string_bytes words.now) ≡ None → files.new ≡ files.old }
 
-    // A read fault is told where the read of the command's file failed, and only there.
-    ensures read_fault { result ≡ READ_FAULT → (file : List ℕ)
-        × (command_of (map string_bytes words.now) ≡ Some (Check file))
+    // A read fault is told where the read of a file of the command failed, and only there.
+    ensures read_fault { result ≡ READ_FAULT → (command : commands.Command) × (file : List ℕ)
+        × (command_of (map string_bytes words.now) ≡ Some command)
+        × Names command file
         × Rose (F.faults files.old) (F.faults files.new)
         × (F.failed files.new ≡ Some file)
         × Appends (O.written out.old) (O.written out.new) (texts.read_fault_line file) }
@@ -110,6 +116,13 @@ pub fn nagini<F: Files, O: Sink>(alloc: Global, words: &[String], files: &mut F,
         × ((faults : List Finding) × AreLocalFaults m faults
         × Appends (O.written out.old) (O.written out.new) (report_text m faults)) }
 
+    // A run reads both files in their order, and its answer is the one that there is to their bytes:
+    // the output of the module under the schedule, and the status of its end.
+    ensures reads_in_order { ReadsInOrder (map string_bytes words.now) (F.held files.old) result
+        (O.written out.old) (O.written out.new) }
+    ensures run_told { RunIsTold (map string_bytes words.now) (F.held files.old) result
+        (O.written out.old) (O.written out.new) }
+
     // A write that fails is the last one, and gives its own status.
     ensures write_fault { result ≡ WRITE_FAULT → Rose (O.faults out.old) (O.faults out.new) }
     ensures no_write_fault { result ≢ WRITE_FAULT → O.faults out.new ≡ O.faults out.old }
@@ -119,43 +132,16 @@ pub fn nagini<F: Files, O: Sink>(alloc: Global, words: &[String], files: &mut F,
         O.late out.new ≡ false }
     ensures held { F.held files.new ≡ F.held files.old }
 {
-    match checked_file(words) {
-        Some(file) => {
+    match read_command(words) {
+        Some(Command::Check(file)) => {
             no_local_fault_is_safe();
             finish(check(alloc, file, files), out)
         }
+        Some(Command::Run(file, schedule)) => {
+            a_run_has_one_answer();
+            run_files(alloc, file, schedule, files, out)
+        }
         None => finish(usage(alloc), out),
-    }
-}
-
-// The file of the command `check FILE`.
-fn checked_file(words: &[String]) -> Option<&str>
-    ensures { option_map Check (option_copied result) ≡ command_of (map string_bytes words.now) }
-{
-    match words {
-        [word, file] if is_check(word, file) => Some(file),
-        _ => None,
-    }
-}
-
-// Whether the words are `check FILE`.
-fn is_check(word: &str, file: &str) -> bool
-    ensures { result ≡ commands.is_check word.now file.now }
-{
-    if word == "check" {
-        is_file(file.as_bytes())
-    } else {
-        false
-    }
-}
-
-// Whether a word may name a file.
-fn is_file(word: &[u8]) -> bool
-    ensures { result ≡ commands.is_file word.now }
-{
-    match word {
-        [] => false,
-        [first, ..] => *first != b'-',
     }
 }
 

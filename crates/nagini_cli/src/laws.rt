@@ -1,8 +1,10 @@
-// What the definition of the answers of `check` gives the bytes of each file.
+// What the definitions of the answers give the bytes of each file.
 ghost use Rattle.std.specs.Prelude.{◌≡◌, ℕ, List};
 ghost use Rattle.nagini_cli.specs.Answers.{Answers};
+ghost use Rattle.nagini_cli.specs.RunAnswers.{RunAnswers};
 
 use py_front::a_text_has_one_answer;
+use schedule_runner::a_text_reads_or_has_a_bad_line;
 
 /// There is an answer to the bytes of each file, and no other.
 pub fn a_file_has_one_answer()
@@ -12,4 +14,15 @@ pub fn a_file_has_one_answer()
         (status : ℕ) × (text : List ℕ) × Answers bytes status text }
 {
     a_text_has_one_answer();
+}
+
+/// There is an answer to the bytes of each file of a module with each file of a schedule, and no other.
+pub fn a_run_has_one_answer()
+    ensures one { (bytes script : List ℕ) (s t : ℕ) (x y : List ℕ) →
+        RunAnswers bytes script s x → RunAnswers bytes script t y → (s ≡ t) × (x ≡ y) }
+    ensures some { (bytes script : List ℕ) →
+        (status : ℕ) × (text : List ℕ) × RunAnswers bytes script status text }
+{
+    a_text_has_one_answer();
+    a_text_reads_or_has_a_bad_line();
 }

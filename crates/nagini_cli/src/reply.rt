@@ -1,5 +1,5 @@
 // What a command answers, and how it is written.
-ghost use Rattle.std.specs.Prelude.{◌≡◌, ◌≢◌, ◌++◌, false, IfOk, IsOkAnd, IsErr, OnOk, OnErr, IsErrOf, flat_map, string_bytes};
+ghost use Rattle.std.specs.Prelude.{◌≡◌, ◌≢◌, ◌++◌, [], false, IfOk, IsOkAnd, IsErr, OnOk, OnErr, IsErrOf, flat_map, string_bytes};
 ghost use Rattle.std.specs.Io.KnownBytes.{Appends};
 ghost use Rattle.io_edge.specs.Outside.{AppendsPart, Rose};
 ghost use Rattle.io_edge.specs.declared.SinkAnswer.{SinkAnswer};
@@ -27,6 +27,16 @@ impl Reply {
             status,
             lines: vec![in alloc; line]?,
         })
+    }
+
+    /// A reply of no line.
+    pub fn none(alloc: Global, status: u8) -> Reply
+        ensures { Says result status [] }
+    {
+        Reply {
+            status,
+            lines: Vec::new(alloc),
+        }
     }
 
     /// A reply of two lines.

@@ -8,7 +8,7 @@ use std::alloc::{AllocError, Global};
 pub fn usage_line(alloc: Global) -> Result<String, AllocError>
     ensures { IfOk result (λ line. string_bytes line ≡ texts.usage_line) }
 {
-    String::from_str(alloc, "usage: nagini check FILE\n")
+    String::from_str(alloc, "usage: nagini check FILE | run FILE SCHEDULE\n")
 }
 
 pub fn limit_line(alloc: Global, name: &str) -> Result<String, AllocError>
@@ -54,4 +54,56 @@ pub fn not_proved_line(alloc: Global, count: usize) -> Result<String, AllocError
     ensures { IfOk result (λ line. string_bytes line ≡ texts.not_proved_line count) }
 {
     format!(in alloc; "not proved {count}\n")
+}
+
+pub fn bad_schedule_line(alloc: Global, number: u32) -> Result<String, AllocError>
+    ensures { IfOk result (λ line. string_bytes line ≡ texts.bad_schedule_line number) }
+{
+    format!(in alloc; "refused BadSchedule line {number}\n")
+}
+
+pub fn stopped_line(
+    alloc: Global,
+    kind: Kind,
+    place: Place,
+    thread: u32,
+) -> Result<String, AllocError>
+    ensures { IfOk result (λ line. string_bytes line ≡ texts.stopped_line kind place thread) }
+{
+    let Place { line, col } = place;
+    let number = kind.number();
+    let name = kind.name();
+    format!(in alloc; "stopped {number} {name} {line}:{col} thread {thread}\n")
+}
+
+pub fn stuck_line(alloc: Global, threads: &[u32]) -> Result<String, AllocError>
+    ensures { IfOk result (λ line. string_bytes line ≡ texts.stuck_line threads.now) }
+{
+    numbers_line(alloc, "stopped stuck threads", threads)
+}
+
+pub fn spent_line(alloc: Global, threads: &[u32]) -> Result<String, AllocError>
+    ensures { IfOk result (λ line. string_bytes line ≡ texts.spent_line threads.now) }
+{
+    numbers_line(alloc, "spent", threads)
+}
+
+// A front, and numbers each behind a space.
+fn numbers_line(alloc: Global, front: &str, numbers: &[u32]) -> Result<String, AllocError>
+    ensures { IfOk result (λ line. string_bytes line ≡ texts.numbers_line front.now numbers.now) }
+{
+    let mut line = String::from_str(alloc, front)?;
+    for number in numbers {
+        let next = format!(in alloc; " {number}")?;
+        line.push_str(&next)?;
+    }
+    line.push_str("\n")?;
+    Ok(line)
+}
+
+pub fn too_large_line(alloc: Global, place: Place) -> Result<String, AllocError>
+    ensures { IfOk result (λ line. string_bytes line ≡ texts.too_large_line place) }
+{
+    let Place { line, col } = place;
+    format!(in alloc; "too large {line}:{col}\n")
 }

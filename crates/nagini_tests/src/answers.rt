@@ -87,15 +87,21 @@ fn other_words_are_answered_by_the_usage_line(rt: HostRuntime) -> Result<(), Fai
     for line in [
         "",
         "check",
-        "check m.py m.py",
         "check m.py m.py m.py",
         "check ",
         "check -x",
         "m.py check",
+        "run",
         "run m.py",
+        "run m.py s.txt s.txt",
+        "run  s.txt",
+        "run m.py ",
+        "run m.py -s",
+        "run -m s.txt",
+        "check m.py s.txt",
         "--help",
     ] {
-        let usage = "usage: nagini check FILE\n";
+        let usage = "usage: nagini check FILE | run FILE SCHEDULE\n";
         assert!(rt;
             gives(rt.alloc(), line, SMALLEST.as_bytes(), 64, usage)?,
             "{line}"

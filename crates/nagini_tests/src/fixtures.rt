@@ -23,3 +23,16 @@ pub fn one_file(alloc: Global, text: &[u8], failing: Vec<u64>) -> Result<MemFile
     files.push((String::from_str(alloc, "m.py")?, text.to_vec(alloc)?))?;
     Ok(MemFiles::new(files, failing))
 }
+
+/// The files `m.py` and `s.txt` with these texts, where the reads with these numbers fail.
+pub fn two_files(
+    alloc: Global,
+    text: &[u8],
+    schedule: &[u8],
+    failing: Vec<u64>,
+) -> Result<MemFiles, AllocError> {
+    let mut files = Vec::new(alloc);
+    files.push((String::from_str(alloc, "m.py")?, text.to_vec(alloc)?))?;
+    files.push((String::from_str(alloc, "s.txt")?, schedule.to_vec(alloc)?))?;
+    Ok(MemFiles::new(files, failing))
+}

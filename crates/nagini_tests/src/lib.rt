@@ -7,3 +7,5 @@ mod answers;
 mod fixtures;
 #[cfg(test)]
 mod outside;
+#[cfg(test)]
+mod runs;

@@ -2,7 +2,8 @@ use Rattle.std.proofs.Common.{Option, IfSome, Err, ap}
 use Rattle.std.proofs.lemmas.Result.{IfOk-weaker}
 use Rattle.std.specs.Prelude.{codes}
 use Rattle.io_edge.specs.Outside.{Held, held_at, IsTooLong}
-use Rattle.nagini_cli.specs.Answers.{answered, ChecksFile, IsAnswer, IsHeldAs}
+use Rattle.nagini_cli.specs.Allowed.{answered, ChecksFile, IsHeldAs}
+use Rattle.nagini_cli.specs.Answers.{IsAnswer}
 use Rattle.nagini_cli.specs.Replies.{Says, text_of}
 use Rattle.nagini_cli.specs.Texts.{limit_line}
 use Rattle.nagini_cli.specs.declared.status.TheConstants.{LIMIT}
