@@ -15,3 +15,6 @@ mod LowestLemmas
 mod WorstLemmas
 mod MoveLemmas
 mod DescentLemmas
+mod GrowthLemmas
+mod SizeLemmas
+mod NarrowLemmas

@@ -27,7 +27,7 @@ times-neg a b = turned (a *ℤ b) (a *ℤ neg_ℤ b) (sym (*ℤ-+ℤ a b (neg_�
     turned : (x y : ℤ) → x +ℤ y ≡ pos 0 → y ≡ neg_ℤ x
     turned x y e = omega (arith, ints)
 
-neg-times : (a b : ℤ) → neg_ℤ a *ℤ b ≡ neg_ℤ (a *ℤ b)
+pub neg-times : (a b : ℤ) → neg_ℤ a *ℤ b ≡ neg_ℤ (a *ℤ b)
 neg-times a b = turned (a *ℤ b) (neg_ℤ a *ℤ b) (sym (+ℤ-*ℤ a (neg_ℤ a) b) ∙ ap (λ z. z *ℤ b) (gone a) ∙ none_times b)
   where
     gone : (z : ℤ) → z +ℤ neg_ℤ z ≡ pos 0

@@ -15,10 +15,10 @@ use Rattle.lin_rows.specs.TermLaws.{at_or_not}
 use Rattle.lin_solver.specs.WayBack.{scaled, extension}
 use Rattle.lin_solver.proofs.DivisorLemmas.{divides_scale}
 
-val_hit : (w v : ℕ) (z : ℤ) (ts : List (ℕ × ℤ)) → w ≡ v → valuation ((v, z) ∷ ts) w ≡ z
+pub val_hit : (w v : ℕ) (z : ℤ) (ts : List (ℕ × ℤ)) → w ≡ v → valuation ((v, z) ∷ ts) w ≡ z
 val_hit w v z ts e = let b : eqb w v ≡ true = grind (arith, nat_tests) in rw b refl
 
-val_miss : (w v : ℕ) (z : ℤ) (ts : List (ℕ × ℤ)) → w ≢ v → valuation ((v, z) ∷ ts) w ≡ valuation ts w
+pub val_miss : (w v : ℕ) (z : ℤ) (ts : List (ℕ × ℤ)) → w ≢ v → valuation ((v, z) ∷ ts) w ≡ valuation ts w
 val_miss w v z ts n = let b : eqb w v ≡ false = grind (arith, nat_tests) in rw b refl
 
 -- the other values are `s` times as large

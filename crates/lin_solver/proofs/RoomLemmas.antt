@@ -25,7 +25,7 @@ after_more v t ts lt = let b : nat_lt v t.0 ≡ true = grind (arith, nat_tests) 
 pub after_less : (v : ℕ) (t : ℕ × ℤ) (ts : List (ℕ × ℤ)) → t.0 ≤ v → after v (t ∷ ts) ≡ after v ts
 after_less v t ts le = let b : nat_lt v t.0 ≡ false = grind (arith, nat_tests) in rw b refl
 
-coef_after : (v w : ℕ) (ts : List (ℕ × ℤ)) → v < w → coef_at (after v ts) w ≡ coef_at ts w
+pub coef_after : (v w : ℕ) (ts : List (ℕ × ℤ)) → v < w → coef_at (after v ts) w ≡ coef_at ts w
 coef_after v w [] lt = refl
 coef_after v w (t ∷ ts) lt = by_order v t.0
     (λ more. ap (λ us. coef_at us w) (after_more v t ts more) ∙ at_or_not w t.0
@@ -33,7 +33,7 @@ coef_after v w (t ∷ ts) lt = by_order v t.0
     (λ n. coef-miss w t.0 t.1 (after v ts) n ∙ coef_after v w ts lt ∙ sym (coef-miss w t.0 t.1 ts n)))
     (λ less. ap (λ us. coef_at us w) (after_less v t ts less) ∙ coef_after v w ts lt ∙ sym (coef-miss w t.0 t.1 ts (λ e. omega arith)))
 
-none_after : (v w : ℕ) (ts : List (ℕ × ℤ)) → w ≤ v → coef_at (after v ts) w ≡ pos 0
+pub none_after : (v w : ℕ) (ts : List (ℕ × ℤ)) → w ≤ v → coef_at (after v ts) w ≡ pos 0
 none_after v w [] le = refl
 none_after v w (t ∷ ts) le = by_order v t.0
     (λ more. ap (λ us. coef_at us w) (after_more v t ts more) ∙ coef-miss w t.0 t.1 (after v ts) (λ e. omega arith) ∙ none_after v w ts le)

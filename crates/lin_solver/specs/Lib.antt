@@ -4,3 +4,4 @@ pub mod Variables
 pub mod Levels
 pub mod WayBack
 pub mod Answers
+pub mod Narrow

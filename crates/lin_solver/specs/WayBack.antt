@@ -51,6 +51,7 @@ pub record IsWorst (rows : List Row) (steps : List ComboStep) (p : Point) (v : �
   pub violated : w.room <ℤ pos 0
   pub worst : HaveRows rows steps (λ r. IsAtMost w.room w.coef (room p r v) (coef_at r.coefs v)) numbers
 
+-- so is it for some numbers of rows that bound `v`
 abbrev pub IsWorstOfSome : List Row → List ComboStep → Point → ℕ → Violation → Type 0
 IsWorstOfSome rows steps p v w = (numbers : List ℕ) × HaveRows rows steps (Bounds rows v) numbers × IsWorst rows steps p v numbers w
 

@@ -4,6 +4,7 @@ ghost use Rattle.lin_rows.specs.Steps.{StepsHold};
 ghost use Rattle.lin_solver.specs.Stops.{IsStop};
 ghost use Rattle.lin_solver.specs.WayBack.{IsSolution};
 ghost use Rattle.lin_solver.specs.Answers.{IsSolved};
+ghost use Rattle.lin_solver.specs.Narrow.{IsNarrow, IsDecided};
 
 use crate::levels::levels_of;
 use crate::stop::Stop;
@@ -37,7 +38,8 @@ fn point_of(alloc: Global, rows: &[Row], steps: &mut Items<ComboStep>) -> Result
 
 /// Steps that show that rows aren't met together, or a point that meets them all.
 pub fn solve(alloc: Global, rows: &[Row]) -> Result<Solved, OutOfMemory>
-    ensures { IfOk result (IsSolved rows.now) }
+    ensures solved { IfOk result (IsSolved rows.now) }
+    ensures narrow { IsNarrow rows.now → IfOk result IsDecided }
 {
     if rows.len() as u128 >= 1 << 32 {
         return Err(OutOfMemory);
