@@ -9,7 +9,10 @@ use py_syntax::{Item, Module, Value};
 pub fn is_built(m: &Module, s: &State) -> bool
     ensures { IsTrue result ↔ IsBuilt m.now s.now }
 {
-    s.threads.as_slice().iter().all(|thread| is_built_thread(m, thread))
+    s.threads
+        .as_slice()
+        .iter()
+        .all(|thread| is_built_thread(m, thread))
 }
 
 fn is_built_thread(m: &Module, thread: &ThreadState) -> bool
