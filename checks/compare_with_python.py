@@ -1,6 +1,7 @@
-"""Compares `check` on small modules with runs of the same modules by CPython.
+"""Compares `check` and `run` on small modules with runs of the same modules by CPython.
 
-An accepted module's `main` ends; where an assert is reported, it is the one at which CPython stops.
+An accepted module's `main` ends; where an assert is reported, it is the one at which CPython stops. A run
+prints what CPython prints, and stops there too.
 The modules are the examples and some that are made from a fixed seed.
 """
 
@@ -15,22 +16,26 @@ TOP = pathlib.Path(__file__).resolve().parent.parent
 NAMES = ["x", "y", "total", "abcdefghijklmnopqrst"]
 MADE = 60
 
+Answer = tuple[int, str]
 
-def answer_of_python(text: str) -> tuple[int, str]:
-    """The status and text that CPython's run of the module asks for."""
-    scope: dict = {"print": lambda *_: None}
+
+def answers_of_python(text: str) -> tuple[Answer, Answer]:
+    """The statuses and texts that CPython's run of the module asks of `check` and of `run`."""
+    printed: list[str] = []
+    scope: dict = {"print": lambda value: printed.append(f"{value}\n")}
     exec(compile(text, "module", "exec"), scope)
     try:
         scope["main"]()
     except AssertionError as error:
         line = traceback.extract_tb(error.__traceback__)[-1].lineno
-        return 1, f"{line}:5 5 Assert main\nnot proved 1\n"
-    return 0, "accepted 1\n"
+        stopped = f"stopped 5 Assert {line}:5 thread 0\n"
+        return (1, f"{line}:5 5 Assert main\nnot proved 1\n"), (3, "".join(printed) + stopped)
+    return (0, "accepted 1\n"), (0, "".join(printed))
 
 
-def answer_of_nagini(path: pathlib.Path) -> tuple[int, str]:
-    """The status and text of `check`."""
-    done = subprocess.run([TOP / "nagini", "check", path], capture_output=True, text=True, check=False)
+def answer_of_nagini(*words: pathlib.Path | str) -> Answer:
+    """The status and text of the program at these words."""
+    done = subprocess.run([TOP / "nagini", *words], capture_output=True, text=True, check=False)
     return done.returncode, done.stdout
 
 
@@ -77,25 +82,27 @@ def made_module(seed: int) -> str:
     return "\n".join(lines[:60]) + made.choice(["\n", ""])
 
 
-def compare(what: str, path: pathlib.Path) -> tuple[bool, int]:
-    """Prints a line where the two differ, and answers whether they agree, with the status."""
-    wanted = answer_of_python(path.read_text(encoding="utf-8"))
-    given = answer_of_nagini(path)
+def compare(what: str, path: pathlib.Path, schedule: pathlib.Path) -> tuple[bool, int]:
+    """Prints a line where the two differ, and answers whether they agree, with the status of `check`."""
+    wanted = answers_of_python(path.read_text(encoding="utf-8"))
+    given = answer_of_nagini("check", path), answer_of_nagini("run", path, schedule)
     if wanted != given:
         print(f"FAILED {what}: {given}; CPython asks for {wanted}")
-    return wanted == given, given[0]
+    return wanted == given, given[0][0]
 
 
 def main() -> None:
-    for path in sorted((TOP / "examples").glob("*.py")):
-        if compare(path.name, path)[0]:
-            print(f"ok {path.name}")
     with tempfile.TemporaryDirectory() as folder:
+        schedule = pathlib.Path(folder) / "fair"
+        schedule.write_text("schedule 1\nfair 10000\n", encoding="utf-8")
+        for path in sorted((TOP / "examples").glob("*.py")):
+            if compare(path.name, path, schedule)[0]:
+                print(f"ok {path.name}")
         path = pathlib.Path(folder) / "made.py"
         statuses = []
         for seed in range(MADE):
             path.write_text(made_module(seed), encoding="utf-8")
-            agrees, status = compare(f"the module of seed {seed}", path)
+            agrees, status = compare(f"the module of seed {seed}", path, schedule)
             if agrees:
                 statuses.append(status)
         accepted, reported = statuses.count(0), statuses.count(1)
