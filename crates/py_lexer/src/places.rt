@@ -38,10 +38,7 @@ pub fn characters(alloc: Global, text: &[u8]) -> Result<TextSpots, LexFault>
         Ok(whole) => Ok(placed_text(alloc, whole)?),
         Err(n) => {
             let (front, _) = text.split_at(n);
-            let Ok(whole) = checked(front) else {
-                return Err(LexFault::OutOfMemory);
-            };
-            let found = placed_text(alloc, whole)?;
+            let found = placed_text(alloc, as_text(front))?;
             Err(LexFault::BadUtf8(found.end))
         }
     }
@@ -54,6 +51,17 @@ fn checked(text: &[u8]) -> Result<&str, usize>
     match std::str::from_utf8(text) {
         Ok(s) => Ok(s),
         Err(e) => Err(e.valid_up_to()),
+    }
+}
+
+// The text of bytes in UTF-8.
+fn as_text(bytes: &[u8]) -> &str
+    requires { IsUtf8 bytes.now }
+    ensures { result.now ≡ bytes.now }
+{
+    match std::str::from_utf8(bytes) {
+        Ok(text) => text,
+        Err(_) => "",
     }
 }
 
