@@ -7,3 +7,4 @@ mod Locks
 mod Commits
 mod Kept
 mod Running
+mod BuiltItems
