@@ -14,7 +14,7 @@ use Rattle.py_syntax.specs.declared.PrintArg.TheVariants.{Value as Printed}
 use Rattle.py_syntax.specs.ExprItems.{form_items, expr_items}
 use Rattle.py_syntax.specs.StmtItems.{method_items, stmt_items, stmt_form_items}
 use Rattle.machine_model.specs.Smallest.{at, x, number, sum, equation, stores, checks, prints, main}
-use Rattle.machine_model.proofs.Parts.{expr_items_is}
+use Rattle.machine_model.specs.Parts.{expr_items_is}
 
 out_number : (n : ℕ) → out-ExprForm (Num (pos n)) ≡ ExprForm-F.Num (pos n)
 out_number n = search expr_lemmas

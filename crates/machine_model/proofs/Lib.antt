@@ -1,6 +1,5 @@
 mod Makes
 mod Maps
-mod Parts
 mod Eleven
 mod ElevenSteps
 mod ReplacedSteps

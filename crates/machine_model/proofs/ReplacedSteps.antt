@@ -18,7 +18,7 @@ use Rattle.machine_model.specs.declared.state.Frame.{Frame}
 use Rattle.machine_model.specs.Smallest.{at}
 use Rattle.machine_model.specs.Replaced.{raises_a, raises_b, tries, call, calls, replaced}
 use Rattle.machine_model.specs.Steps.{Run, step, whole, run_after, continued, first_run, after}
-use Rattle.machine_model.proofs.Parts.{expr_items_is}
+use Rattle.machine_model.specs.Parts.{expr_items_is}
 
 out_call : out-ExprForm (Call 0 []) ≡ ExprForm-F.Call 0 []
 out_call = search expr_lemmas

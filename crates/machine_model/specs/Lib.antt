@@ -16,3 +16,4 @@ pub mod Race
 pub mod Safe
 pub mod Smallest
 pub mod Replaced
+pub mod Parts

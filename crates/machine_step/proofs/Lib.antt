@@ -6,3 +6,5 @@ mod Plans
 mod Locks
 mod Commits
 mod Kept
+mod Running
+mod BuiltItems

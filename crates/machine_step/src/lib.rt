@@ -7,6 +7,7 @@ mod ending;
 mod fault;
 mod forms;
 mod items;
+mod laws;
 mod numbers;
 mod one_step;
 mod operators;
@@ -18,5 +19,9 @@ mod values;
 
 pub use fault::StepFault;
 pub use forms::is_built;
+pub use laws::small_modules_are_built;
 pub use one_step::step;
 pub use stuck::{all_ended, can_move, is_stuck};
+
+#[cfg(test)]
+mod tests;

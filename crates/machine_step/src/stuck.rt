@@ -1,8 +1,9 @@
 // Which threads can move, and when a run is over or stuck.
-ghost use Rattle.std.specs.Prelude.{◌≡◌, find, option_copied, nat_eq, false};
+ghost use Rattle.std.specs.Prelude.{◌≡◌, find, option_copied, nat_eq, false, not};
 ghost use Rattle.std.specs.List.{list_all};
 ghost use Rattle.std.specs.Option.{option_map_or};
 ghost use Rattle.machine_model.specs.Heap as heaps;
+ghost use Rattle.machine_model.specs.Sharing as sharing;
 ghost use Rattle.machine_model.specs.Stuck as stuck;
 
 use machine_model::{Frame, Object, Stack, State, ThreadState};
@@ -89,11 +90,18 @@ fn thread_runs(s: &State, stack: &Stack<Value>) -> bool
     ensures { result ≡ stuck.thread_runs s.now stack.now }
 {
     match stack.get(0) {
-        Some(Value::Ref(object)) => match thread_of(*object, s.threads.as_slice()) {
-            Some(thread) => !thread.ended,
-            None => false,
-        },
+        Some(Value::Ref(object)) => is_running(*object, s.threads.as_slice()),
         _ => false,
+    }
+}
+
+#[tactic(auto, using(crate::proofs::Running::runs_some, crate::proofs::Running::runs_none))]
+fn is_running(object: u32, threads: &[ThreadState]) -> bool
+    ensures { result ≡ option_map_or (λ thread. not (thread.1).ended) (sharing.thread_of object threads.now) false }
+{
+    match thread_of(object, threads) {
+        Some(thread) => !thread.ended,
+        None => false,
     }
 }
 

@@ -131,7 +131,7 @@ pub fn push_both(
 }
 
 #[cycle(push_expr)]
-#[tactic(auto, using(crate::proofs::Parts::trees))]
+#[tactic(auto, using(crate::specs::Parts::trees))]
 fn push_chain(
     alloc: Global,
     control: &mut Stack<Item<Value>>,

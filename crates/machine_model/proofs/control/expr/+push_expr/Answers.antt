@@ -1,5 +1,5 @@
 use Rattle.std.proofs.Common.{◌≡◌, OnOk, sym, subst}
-use Rattle.machine_model.proofs.Parts.{expr_items_is}
+use Rattle.machine_model.specs.Parts.{expr_items_is}
 use Rattle.machine_model.proofs.control.expr.+push_expr.Goals as goal
 
 pub push_expr-returns : goal.push_expr-returns
