@@ -6,6 +6,7 @@ ghost use Rattle.schedule_runner.specs.Playing.{turn_in};
 use crate::ending::{RunEnd, RunFault};
 use crate::grant::Grant;
 use machine_model::{State, ThreadState};
+use machine_step::{all_ended, is_stuck};
 use py_base::OutOfMemory;
 use py_syntax::Module;
 use sqlite_items::Items;
@@ -75,5 +76,14 @@ pub fn turn_in(alloc: Global, m: &Module, s: &State) -> Result<Turn, RunFault>
     ensures ok { IfOk result (λ turn. turn ≡ turn_in s.now) }
     ensures err { IfErr result (λ fault. fault ≡ RunFault.OutOfMemory) }
 {
-    Err(RunFault::OutOfMemory)
+    if all_ended(s) {
+        return Ok(Turn::Ends(RunEnd::Finished));
+    }
+    if !is_stuck(m, s) {
+        return Ok(Turn::Goes);
+    }
+    match unfinished(alloc, s.threads.as_slice()) {
+        Ok(threads) => Ok(Turn::Ends(RunEnd::Stuck(threads))),
+        Err(_) => Err(RunFault::OutOfMemory),
+    }
 }
