@@ -28,9 +28,10 @@ not_both_counts all others same many few = apart (steps_of all) many (subst (λ 
     apart n more less = omega arith
 
 same_run : (m n : Module) (all others : List ScheduleLine) (s t : ℕ) (x y : List ℕ) → m ≡ n → all ≡ others → s ≡ run_status m all → x ≡ run_text m all → t ≡ run_status n others → y ≡ run_text n others → (s ≡ t) × (x ≡ y)
-same_run m n all others s t x y is are a b c d =
-    (a ∙ ap (λ (k : Module). run_status k all) is ∙ ap (λ (l : List ScheduleLine). run_status n l) are ∙ sym c,
-     b ∙ ap (λ (k : Module). run_text k all) is ∙ ap (λ (l : List ScheduleLine). run_text n l) are ∙ sym d)
+same_run m n all others s t x y is are a b c d = (
+  a ∙ ap (λ (k : Module). run_status k all) is ∙ ap (λ (l : List ScheduleLine). run_status n l) are ∙ sym c,
+  b ∙ ap (λ (k : Module). run_text k all) is ∙ ap (λ (l : List ScheduleLine). run_text n l) are ∙ sym d,
+)
 
 only_file_too_long : (laws : TextLaws) (schedules : ScheduleLaws) (bytes script : List ℕ) (s : ℕ) (x : List ℕ) → FILE_LIMIT < length bytes → s ≡ LIMIT → x ≡ limit_line (codes "file") → (t : ℕ) (y : List ℕ) → RunAnswers bytes script t y → (s ≡ t) × (x ≡ y)
 only_file_too_long laws schedules bytes script s x long a b t y (file_too_long long2 c d) = (a ∙ sym c, b ∙ sym d)

@@ -111,19 +111,19 @@ same_file words a b c d e f = by_command (command_of words) e f
 pub reads_in_order : (words : List (List ℕ)) (held : Option Held) (file schedule : List ℕ) (status : ℕ) (old new : Option (List ℕ)) → command_of words ≡ Some (Run file schedule) → IsAllowed held file schedule status old new → ReadsInOrder words held status old new
 reads_in_order words held file schedule status old new is allowed = record {
   file_not_held = λ f g files command told none quiet.
-    let same = same_file words file schedule f g is command in
-    let said = allowed quiet in
-    let fault = fault_where_missing files f schedule status said.0 none (moved files f told same.0 said.0 said.1) in
-    (fault.0, subst (λ (x : List ℕ). Appends old new x) fault.1 said.2);
+      let same = same_file words file schedule f g is command in
+      let said = allowed quiet in
+      let fault = fault_where_missing files f schedule status said.0 none (moved files f told same.0 said.0 said.1) in
+      (fault.0, subst (λ (x : List ℕ). Appends old new x) fault.1 said.2);
   file_too_long = λ f g bytes files command told holds long answered.
-    let same = same_file words file schedule f g is command in
-    let said = allowed answered.0 in
-    let limit = limit_where_long files f schedule bytes status said.0 holds long answered.1 (moved files f told same.0 said.0 said.1) in
-    (limit.0, subst (λ (x : List ℕ). Appends old new x) limit.1 said.2);
+      let same = same_file words file schedule f g is command in
+      let said = allowed answered.0 in
+      let limit = limit_where_long files f schedule bytes status said.0 holds long answered.1 (moved files f told same.0 said.0 said.1) in
+      (limit.0, subst (λ (x : List ℕ). Appends old new x) limit.1 said.2);
   schedule_not_held = λ f g files command told none quiet within.
-    let same = same_file words file schedule f g is command in
-    let said = allowed quiet in
-    fault_where_no_schedule files f g status said.0 none within (subst (λ (l : List ℕ). RunsFiles (Some files) f l status said.0) same.1 (moved files f told same.0 said.0 said.1));
+      let same = same_file words file schedule f g is command in
+      let said = allowed quiet in
+      fault_where_no_schedule files f g status said.0 none within (subst (λ (l : List ℕ). RunsFiles (Some files) f l status said.0) same.1 (moved files f told same.0 said.0 said.1));
 }
   where
     moved : (files : Held) (f : List ℕ) → held ≡ Some files → file ≡ f → (x : List ℕ) → RunsFiles held file schedule status x → RunsFiles (Some files) f schedule status x

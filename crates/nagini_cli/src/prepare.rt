@@ -103,7 +103,11 @@ fn prepare_bytes(alloc: Global, bytes: &[u8], script: &[u8]) -> Result<Prepared,
 }
 
 // The module, with the schedule by its bytes.
-fn prepare_module(alloc: Global, small_module: Module, script: &[u8]) -> Result<Prepared, OutOfMemory>
+fn prepare_module(
+    alloc: Global,
+    small_module: Module,
+    script: &[u8],
+) -> Result<Prepared, OutOfMemory>
     ensures whole { IfOk result (λ p. (bytes : List ℕ) → AreShort bytes script.now →
         Spells bytes small_module → ByBytes bytes script.now p) }
     ensures no_read_fault { IfOk result (λ p. ¬ IsUnread p) }
@@ -113,9 +117,7 @@ fn prepare_module(alloc: Global, small_module: Module, script: &[u8]) -> Result<
         Err(ScheduleFault::BadSchedule(line)) => {
             Ok(Prepared::Answered(refuse_schedule(alloc, line)?))
         }
-        Err(ScheduleFault::ScheduleTooLong) => {
-            Ok(Prepared::Answered(too_many_steps(alloc)?))
-        }
+        Err(ScheduleFault::ScheduleTooLong) => { Ok(Prepared::Answered(too_many_steps(alloc)?)) }
         Err(ScheduleFault::OutOfMemory) => Err(OutOfMemory),
     }
 }

@@ -14,9 +14,7 @@ ghost use Rattle.nagini_cli.specs.Texts as texts;
 
 use crate::prepare::{Prepared, prepare};
 use crate::reply::{Reply, finish};
-use crate::status::{
-    FINISHED, NO_MEMORY, READ_FAULT, SPENT, STOPPED, TOO_LARGE, WRITE_FAULT,
-};
+use crate::status::{FINISHED, NO_MEMORY, READ_FAULT, SPENT, STOPPED, TOO_LARGE, WRITE_FAULT};
 use crate::texts::{spent_line, stopped_line, stuck_line, too_large_line};
 use io_edge::{Files, Sink};
 use py_base::OutOfMemory;

@@ -30,7 +30,12 @@ fn a_run_prints_its_output_and_then_its_end(rt: HostRuntime) -> Result<(), Fail>
         (SMALLEST, "schedule 1\n7 5\n0 10\n", 4, "3\nspent 0\n"),
         (SMALLEST, "schedule 1\n0 11\n0 5\n", 0, "3\n"),
         (SMALLEST, "schedule 1\n", 4, "spent 0\n"),
-        (failed, "schedule 1\n0 100\n", 3, "7\nstopped 5 Assert 3:5 thread 0\n"),
+        (
+            failed,
+            "schedule 1\n0 100\n",
+            3,
+            "7\nstopped 5 Assert 3:5 thread 0\n",
+        ),
     ] {
         assert!(rt;
             gives(
@@ -52,9 +57,19 @@ fn a_schedule_is_refused_after_the_module(rt: HostRuntime) -> Result<(), Fail> {
     let unknown = "def main() -> None:\n    x = y\n";
     for (text, schedule, status, output) in [
         (SMALLEST, "", 2, "refused BadSchedule line 1\n"),
-        (SMALLEST, "schedule 1\n0 x\n", 2, "refused BadSchedule line 2\n"),
+        (
+            SMALLEST,
+            "schedule 1\n0 x\n",
+            2,
+            "refused BadSchedule line 2\n",
+        ),
         (SMALLEST, "schedule 1\n0 10000001\n", 7, "limit schedule\n"),
-        (SMALLEST, "schedule 1\n0 10000001\n0\n", 2, "refused BadSchedule line 3\n"),
+        (
+            SMALLEST,
+            "schedule 1\n0 10000001\n0\n",
+            2,
+            "refused BadSchedule line 3\n",
+        ),
         (unknown, "schedule 1\n0 x\n", 2, "refused NotBuilt 2:1\n"),
         ("", "", 2, "refused NoMain 1:1\n"),
     ] {
@@ -95,10 +110,18 @@ fn a_schedule_of_one_byte_more_than_the_limit_is_too_long(rt: HostRuntime) -> Re
     let alloc = rt.alloc();
     let long = vec![in alloc; b'#'; 1_048_577]?;
     for (line, text, schedule, output) in [
-        ("run m.py s.txt", b"x".as_slice(), long.as_slice(), "limit file\n"),
+        (
+            "run m.py s.txt",
+            b"x".as_slice(),
+            long.as_slice(),
+            "limit file\n",
+        ),
         ("run m.py other.txt", &long, b"", "limit file\n"),
     ] {
-        assert!(rt; gives(alloc, (line, 9), text, schedule, 7, output)?, "{line}");
+        assert!(rt;
+            gives(alloc, (line, 9), text, schedule, 7, output)?,
+            "{line}"
+        );
     }
     Ok(())
 }
