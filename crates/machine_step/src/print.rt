@@ -4,6 +4,7 @@ ghost use Rattle.machine_model.specs.declared.state.Object.{Object as Thing};
 ghost use Rattle.machine_model.specs.Frames.{pop_arguments};
 ghost use Rattle.machine_model.specs.Items.{prints};
 ghost use Rattle.machine_model.specs.Printing as printing;
+ghost use Rattle.py_syntax.specs.StmtItems as items;
 ghost use Rattle.machine_step.specs.Agreement.{Agrees};
 ghost use Rattle.machine_step.specs.Lines.{further};
 ghost use Rattle.machine_step.specs.Changes.{begun, done};
@@ -29,7 +30,7 @@ pub fn print(alloc: Global, args: &[PrintArg], frame: &Frame) -> Result<Deed, St
 
 // How many values the arguments ask for.
 fn values_wanted(args: &[PrintArg]) -> usize
-    ensures { result ≡ printing.values_wanted args.now }
+    ensures { result ≡ items.values_wanted args.now }
 {
     let mut count = 0;
     for arg in args {

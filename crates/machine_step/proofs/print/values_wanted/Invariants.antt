@@ -1,5 +1,5 @@
 use Rattle.std.proofs.Common.{◌≡◌, ◌+◌, ◌≤◌, drop}
-use Rattle.machine_model.specs.Printing.{values_wanted}
+use Rattle.py_syntax.specs.StmtItems.{values_wanted}
 use Rattle.machine_step.proofs.print.values_wanted.Given as goal
 
 abbrev pub invariant-loop-arg : goal.invariant-loop-arg
