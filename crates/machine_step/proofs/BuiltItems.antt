@@ -88,7 +88,7 @@ form_step : (x : ExprForm-F ExprForm Expr Instance) (y : ExprForm-F SuchForm Suc
 form_step x y is small p rest more =
     let layer : is_small_layer x ≡ true = sym (fold-roll-ExprForm Bool Bool (Unit {0}) is_small_form (λ e. e.form) (λ i. tt) x) ∙ small in
     let items : AreBuilt (form_items (λ e. e) expr_items x p rest) =
-        subst (λ z. AreBuilt (form_items (λ e. e) expr_items z p rest)) is (form_layer y (ap is_small_layer is ∙ layer) p rest more) in
+    subst (λ z. AreBuilt (form_items (λ e. e) expr_items z p rest)) is (form_layer y (ap is_small_layer is ∙ layer) p rest more) in
     subst (λ z. AreBuilt (form_items (λ e. e) expr_items z p rest)) (sym (out-roll-ExprForm x)) items
 
 expr_layer : (y : Expr-F SuchForm SuchExpr SuchInstance) → ExprBuilt (roll-Expr (expr_of y))

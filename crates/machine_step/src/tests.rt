@@ -140,10 +140,16 @@ fn the_smallest_module_takes_eleven_steps(rt: HostRuntime) -> Result<(), Fail> {
     let mut s = begun(alloc, &m)?;
     walk(alloc, &m, &mut s, 9)?;
     let printed = told(alloc, &m, &mut s, 0)?;
-    assert_eq!(rt; printed.as_str(), "Went(Trace { event: None, line: Some(Text { bytes: [51] }) })");
+    assert_eq!(rt;
+        printed.as_str(),
+        "Went(Trace { event: None, line: Some(Text { bytes: [51] }) })"
+    );
     assert!(rt; can_move(&m, &s, 0) && !all_ended(&s) && !is_stuck(&m, &s));
     let ended = told(alloc, &m, &mut s, 0)?;
-    assert_eq!(rt; ended.as_str(), "Went(Trace { event: Some(Event { thread: 0, form: Ended }), line: None })");
+    assert_eq!(rt;
+        ended.as_str(),
+        "Went(Trace { event: Some(Event { thread: 0, form: Ended }), line: None })"
+    );
     assert!(rt; !can_move(&m, &s, 0) && all_ended(&s) && !is_stuck(&m, &s));
     let over = told(alloc, &m, &mut s, 0)?;
     assert_eq!(rt; over.as_str(), "Same");
@@ -173,7 +179,10 @@ fn a_false_assert_fails_at_its_statement(rt: HostRuntime) -> Result<(), Fail> {
     let first = told(alloc, &m, &mut s, 0)?;
     assert_eq!(rt; first.as_str(), "Failed(Assert, Place { line: 3, col: 5 })");
     let second = told(alloc, &m, &mut s, 0)?;
-    assert_eq!(rt; second.as_str(), "Failed(Assert, Place { line: 3, col: 5 })");
+    assert_eq!(rt;
+        second.as_str(),
+        "Failed(Assert, Place { line: 3, col: 5 })"
+    );
     Ok(())
 }
 
