@@ -1,13 +1,13 @@
 -- The items of expressions and statements of small forms are built.
-use Rattle.std.proofs.Common.{◌≡◌, ℕ, zero, suc, Bool, true, false, ◌&&◌, List, [], ◌∷◌, map, slice_get, Option, Some, None, refl, ap, sym, ◌∙◌, subst}
+use Rattle.std.proofs.Common.{◌≡◌, ℕ, zero, suc, Bool, true, false, ◌&&◌, List, [], ◌∷◌, slice_get, Option, Some, None, refl, ap, sym, ◌∙◌, subst}
 use Rattle.std.specs.Prelude.{All, IfSome, IsTrue}
 use Rattle.std.specs.List.{list_all}
 use Rattle.std.proofs.lemmas.List.Elements.{All-nil, All-cons, All-head, All-tail}
 use Rattle.py_base.specs.declared.Place.{Place}
 use Rattle.py_syntax.specs.declared.Value.{Value}
-use Rattle.py_syntax.specs.declared.Expr.{Expr, Expr-F, map-Expr, fold-Expr, fold-roll-Expr, roll-Expr, ind-Expr}
+use Rattle.py_syntax.specs.declared.Expr.{Expr, Expr-F, map-Expr, fold-roll-Expr, roll-Expr, ind-Expr}
 use Rattle.py_syntax.specs.declared.ExprForm.{ExprForm, ExprForm-F, map-ExprForm, out-ExprForm, roll-ExprForm, out-roll-ExprForm, fold-ExprForm, fold-roll-ExprForm}
-use Rattle.py_syntax.specs.declared.Instance.{Instance, Instance-F, fold-Instance}
+use Rattle.py_syntax.specs.declared.Instance.{Instance, fold-Instance}
 use Rattle.py_syntax.specs.declared.PrintArg.{PrintArg}
 use Rattle.py_syntax.specs.declared.PrintArg.TheVariants as arg
 use Rattle.py_syntax.specs.declared.Stmt.{Stmt}
@@ -19,7 +19,6 @@ use Rattle.py_syntax.specs.declared.Item.TheVariants as item
 use Rattle.py_syntax.specs.ExprItems.{form_items, expr_items}
 use Rattle.py_syntax.specs.StmtItems.{printed_items, stmt_form_items, stmt_items, making_form, making_items}
 use Rattle.py_syntax.specs.ItemLaws.{expr_items_is}
-use Rattle.machine_model.specs.declared.state.ThreadState.{ThreadState}
 use Rattle.machine_model.specs.Steps.{first_frame, first_frames, first_state}
 use Rattle.machine_step.specs.Built.{IsBuiltItem, HasNoConditions, IsBuiltFrame, AreBuiltFrames, IsBuiltThread, IsBuilt}
 use Rattle.machine_step.specs.SmallForms.{is_small_form, is_small, is_small_argument, is_small_stmt_form, is_small_stmt, IsSmallMethod, HasSmallForms}

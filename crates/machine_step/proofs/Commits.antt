@@ -7,7 +7,6 @@ use Rattle.machine_model.specs.declared.state.ThreadState.{ThreadState}
 use Rattle.machine_model.specs.declared.state.State.{State}
 use Rattle.machine_model.specs.Steps.{own_of, state_after}
 use Rattle.machine_step.specs.declared.change.Change.{Change}
-use Rattle.machine_step.specs.declared.change.Deed.{Deed}
 use Rattle.machine_step.specs.declared.change.Deed.TheVariants.{Stays, Ends}
 use Rattle.machine_step.specs.Built.{IsRunning}
 use Rattle.machine_step.specs.Changes.{begun, changed, frames_at, frames_of, planned}

@@ -1,5 +1,5 @@
 -- Members of a stack by their depth.
-use Rattle.std.proofs.Common.{◌≡◌, ◌+◌, ℕ, zero, suc, List, [], ◌∷◌, drop, Option, Some, None, refl, ap, ◌∙◌, arith, slice_get}
+use Rattle.std.proofs.Common.{◌≡◌, ◌+◌, ℕ, zero, suc, List, [], ◌∷◌, drop, Some, None, refl, ap, ◌∙◌, arith, slice_get}
 
 there : {X : Type 0} (xs : List X) (depth : ℕ) (x : X) → slice_get xs depth ≡ Some x → drop depth xs ≡ x ∷ drop (suc depth) xs
 there [] depth x found = cc

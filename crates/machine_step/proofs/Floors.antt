@@ -1,5 +1,5 @@
 -- Division rounded down, and numbers that fit.
-use Rattle.std.proofs.Common.{◌≡◌, ◌<◌, ◌^◌, ℕ, Bool, true, false, ℤ, pos, negsuc, ◌+ℤ◌, ◌-ℤ◌, FitsSigned, nat_lt, zero, suc, Some, None, Result, refl, ap, sym, subst, ◌∙◌, to_z, of_z, arith}
+use Rattle.std.proofs.Common.{◌≡◌, ℕ, true, false, ℤ, pos, negsuc, ◌+ℤ◌, ◌-ℤ◌, FitsSigned, Some, None, Result, ap, sym, subst, ◌∙◌, to_z, of_z, arith}
 use Rattle.std.proofs.lemmas.Int.{ints, to_z-of_z}
 use Rattle.std.specs.Prelude.{int_div, int_rem, if◌then◌else◌}
 use Rattle.std.specs.Int.{w128}

@@ -1,10 +1,8 @@
 -- The steps of a state whose steps are built lead to such states.
-use Rattle.std.proofs.Common.{◌≡◌, ℕ, zero, suc, Bool, List, [], ◌∷◌, drop, slice_get, Option, Some, None, refl, ap, sym, subst, ◌∙◌}
+use Rattle.std.proofs.Common.{◌≡◌, ℕ, zero, suc, Bool, List, [], ◌∷◌, slice_get, Option, Some, None, refl, sym, subst}
 use Rattle.std.specs.Prelude.{All, IsSomeAnd, if◌then◌else◌}
 use Rattle.std.proofs.lemmas.List.Elements.{All-drop, All-head, All-tail, All-set}
-use Rattle.py_syntax.specs.declared.Value.{Value}
 use Rattle.py_syntax.specs.declared.Module.{Module}
-use Rattle.py_syntax.specs.declared.Item.{Item}
 use Rattle.machine_model.specs.declared.state.Object.{Object}
 use Rattle.machine_model.specs.declared.state.Frame.{Frame}
 use Rattle.machine_model.specs.declared.state.ThreadState.{ThreadState}

@@ -1,9 +1,8 @@
 -- What a call of `step` answers, and the state that it leaves, by the step that is defined for numbers of 128 bits.
-use Rattle.std.specs.Prelude.{◌≡◌, ℕ, Option, Some, None, Result, Ok, Err}
+use Rattle.std.specs.Prelude.{◌≡◌, ℕ, Result, Ok, Err}
 use Rattle.std.specs.Option.{option_map}
 use Rattle.py_syntax.specs.declared.Module.{Module}
 use Rattle.machine_model.specs.declared.state.State.{State}
-use Rattle.machine_model.specs.declared.event.Event.{Event}
 use Rattle.machine_model.specs.declared.event.EventForm.{EventForm}
 use Rattle.machine_model.specs.declared.event.Trace.{Trace}
 use Rattle.machine_model.specs.declared.moved.Moved.{Moved}

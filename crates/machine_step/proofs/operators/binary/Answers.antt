@@ -1,6 +1,5 @@
-use Rattle.std.proofs.Common.{◌≡◌, FitsSigned, rules}
+use Rattle.std.proofs.Common.{FitsSigned, rules}
 use Rattle.std.specs.Int.{w128}
-use Rattle.py_syntax.specs.declared.Value.TheVariants.{Num}
 use Rattle.machine_step.proofs.Floors.{numbers_agree}
 use Rattle.machine_step.proofs.operators.binary.Goals as goal
 

@@ -1,5 +1,4 @@
 use Rattle.std.proofs.Common.{◌≡◌, Some, false, slice_get, sym, rules, ◌∙◌}
-use Rattle.machine_model.specs.Items.{act}
 use Rattle.machine_step.specs.Bits.{has_128_bits}
 use Rattle.machine_step.specs.Changes.{begun, done}
 use Rattle.machine_step.proofs.Plans.{plain_item, fault_agrees}

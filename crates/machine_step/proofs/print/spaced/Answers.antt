@@ -1,4 +1,4 @@
-use Rattle.std.proofs.Common.{◌≡◌, ◌≤◌, List, ℕ, arith, length, get_or, rules}
+use Rattle.std.proofs.Common.{◌≡◌, ◌≤◌, arith, length, get_or, rules}
 use Rattle.std.proofs.lemmas.List.{take_rest}
 use Rattle.machine_step.proofs.Arguments.{spaced_from}
 use Rattle.machine_step.proofs.print.spaced.Goals as goal

@@ -1,4 +1,4 @@
-use Rattle.std.proofs.Common.{◌≡◌, ◌-◌, ◌≤◌, drop}
+use Rattle.std.proofs.Common.{◌≡◌, ◌-◌, drop}
 use Rattle.machine_model.specs.Frames.{pop_arguments, pop_onto}
 use Rattle.machine_step.proofs.print.top_values.Given as goal
 
