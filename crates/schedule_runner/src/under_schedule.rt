@@ -2,9 +2,9 @@
 ghost use Rattle.std.specs.Prelude.{◌≡◌, false, None, IfOk, IfErr, OnOk, OnErr, IsErrOf};
 ghost use Rattle.std.specs.Io.KnownBytes.{Appends};
 ghost use Rattle.io_edge.specs.Outside.{AppendsPart, Rose};
-ghost use Rattle.machine_model.specs.Steps.{first_state};
 ghost use Rattle.machine_step.specs.Bits.{has_128_bits};
 ghost use Rattle.machine_step.specs.Built.{IsBuilt};
+ghost use Rattle.machine_step.specs.SmallForms.{HasSmallForms};
 ghost use Rattle.schedule_runner.specs.Output.{output, output_of, grants_of, end_in, text_of, unfinished};
 
 use crate::ending::{RunEnd, RunFault};
@@ -13,6 +13,7 @@ use crate::schedule::{Schedule, ScheduleLine};
 use crate::turn::play_lines;
 use io_edge::Sink;
 use machine_model::{State, start};
+use machine_step::small_modules_are_built;
 use py_syntax::Module;
 use std::alloc::Global;
 
@@ -24,7 +25,7 @@ pub fn run<O: Sink>(
     sched: &Schedule,
     out: &mut O,
 ) -> Result<RunEnd, RunFault>
-    requires { IsBuilt m.now (first_state m.now) }
+    requires { HasSmallForms m.now }
     // The end and the text are those of the run that is defined for numbers of 128 bits.
     ensures ends { IfOk result (λ end. (output_of has_128_bits m.now sched.now.lines).ends ≡ end) }
     ensures whole { OnOk result (Appends (O.written out.old) (O.written out.new)
@@ -41,6 +42,7 @@ pub fn run<O: Sink>(
     ensures late { O.faults out.old ≡ 0 → O.late out.old ≡ false →
         O.late out.new ≡ false }
 {
+    small_modules_are_built();
     let Ok(state) = start(alloc, m) else {
         return Err(RunFault::OutOfMemory);
     };
