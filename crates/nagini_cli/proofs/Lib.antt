@@ -10,7 +10,7 @@ pub mod LocalRuns
 pub mod SmallShapes
 pub mod Faults
 pub mod Verdicts
-pub mod FirstState
+pub mod BuiltForms
 pub mod OneRunAnswer
 pub mod ToldRun
 pub mod Prepares

@@ -2,8 +2,7 @@
 ghost use Rattle.std.specs.Prelude.{◌≡◌, ◌≢◌, ◌⊎◌, false, ℕ, List, IfOk, Some};
 ghost use Rattle.std.specs.Io.KnownBytes.{Appends};
 ghost use Rattle.io_edge.specs.Outside.{AppendsPart, Rose};
-ghost use Rattle.machine_model.specs.Steps.{first_state};
-ghost use Rattle.machine_step.specs.Built.{IsBuilt};
+ghost use Rattle.machine_step.specs.SmallForms.{HasSmallForms};
 ghost use Rattle.nagini_cli.specs.Allowed.{RunsFiles};
 ghost use Rattle.nagini_cli.specs.Commands as commands;
 ghost use Rattle.nagini_cli.specs.Commands.{Names};
@@ -62,7 +61,7 @@ pub fn run_files<F: Files, O: Sink>(
 
 // Runs a module under a schedule, and tells how the run ended.
 fn play<O: Sink>(alloc: Global, small_module: &Module, schedule: &Schedule, out: &mut O) -> u8
-    requires { IsBuilt small_module.now (first_state small_module.now) }
+    requires { HasSmallForms small_module.now }
     ensures whole { IsQuiet result → (result ≡ run_status small_module.now schedule.now.lines)
         × Appends (O.written out.old) (O.written out.new)
         (run_text small_module.now schedule.now.lines) }

@@ -8,7 +8,7 @@ use Rattle.nagini_cli.specs.Allowed.{RunsFiles}
 use Rattle.nagini_cli.specs.Preparing.{ByFiles, GiveFiles}
 use Rattle.nagini_cli.specs.Replies.{text_of}
 use Rattle.nagini_cli.specs.RunAnswers.{run_status, run_text}
-use Rattle.nagini_cli.proofs.FirstState.{first_state_is_built}
+use Rattle.nagini_cli.proofs.BuiltForms.{has_small_forms}
 use Rattle.nagini_cli.proofs.Prepares.{runs_files, promised_with_fault}
 use Rattle.nagini_cli.proofs.SmallShapes.{shape_is_small}
 use Rattle.nagini_cli.proofs.ToldRun.{no_fault_ends}
@@ -19,7 +19,7 @@ play-requires g c =
     let held : Option Held = g.F.Files.held c.args.files.now in
     let m : Module = c.in-Ok-Ready.module in
     let from : GiveFiles held c.args.file.now c.args.schedule.now m c.in-Ok-Ready.schedule.lines = subst (λ (p : Prepared). ByFiles held c.args.file.now c.args.schedule.now p) c.in-Ok-Ready.field-0-is c.in-Ok-Ready.ensures.whole in
-    first_state_is_built m (shape_is_small from.bytes m from.give.small)
+    has_small_forms m (shape_is_small from.bytes m from.give.small)
 
 pub returns-in-Ok-Ready-clause-whole : goal.returns-in-Ok-Ready-clause-whole
 returns-in-Ok-Ready-clause-whole g c = λ quiet.
