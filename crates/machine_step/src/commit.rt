@@ -13,7 +13,11 @@ use py_syntax::Value;
 use sqlite_items::Items;
 use std::alloc::Global;
 
-fn change_stack(drops: usize, pushes: Option<Value>, stack: &mut Stack<Value>) -> Result<(), OutOfMemory>
+fn change_stack(
+    drops: usize,
+    pushes: Option<Value>,
+    stack: &mut Stack<Value>,
+) -> Result<(), OutOfMemory>
     ensures ok { OnOk result (stack.new ≡ pushed_on pushes (drop drops stack.old)) }
     ensures err { OnErr result (stack.new ≡ stack.old) }
 {
