@@ -76,7 +76,11 @@ and_right false b both = cc
 
 form_layer : (y : ExprForm-F SuchForm SuchExpr SuchInstance) → is_small_layer (form_of y) ≡ true → (p : Place) (rest : Items) → AreBuilt rest → AreBuilt (form_items (λ e. e) expr_items (form_of y) p rest)
 form_layer (ExprForm-F.Num n) small p rest more = built (item.Num n) rest tt more
+form_layer (ExprForm-F.Truth b) small p rest more = built (item.Truth b) rest tt more
+form_layer ExprForm-F.Nil small p rest more = built item.Nil rest tt more
 form_layer (ExprForm-F.Local i) small p rest more = built (item.Load i) rest tt more
+form_layer (ExprForm-F.Un key a) small p rest more = a.1 small (item.Un p key ∷ rest) (built (item.Un p key) rest tt more)
+form_layer (ExprForm-F.NotNil e) small p rest more = e.1 small (item.NotNil p ∷ rest) (built (item.NotNil p) rest tt more)
 form_layer (ExprForm-F.Bin key a b) small p rest more =
     let last : AreBuilt (item.Bin p key ∷ rest) = built (item.Bin p key) rest tt more in
     a.1 (and_left (is_small a.0) (is_small b.0) small) (expr_items b.0 (item.Bin p key ∷ rest))
@@ -111,6 +115,8 @@ args_built (arg.Literal text ∷ args) small rest more = args_built args small r
 
 stmt_form_built : (form : StmtForm-F StmtForm Stmt) → is_small_stmt_form form ≡ true → (p : Place) (rest : Items) → AreBuilt rest → AreBuilt (stmt_form_items form p rest)
 stmt_form_built StmtForm-F.Pass small p rest more = built item.Pass rest tt more
+stmt_form_built (StmtForm-F.Fold i) small p rest more = built (item.Fold p i) rest tt more
+stmt_form_built (StmtForm-F.Unfold i) small p rest more = built (item.Unfold p i) rest tt more
 stmt_form_built (StmtForm-F.Store i e) small p rest more = expr_built e small (item.Store i ∷ rest) (built (item.Store i) rest tt more)
 stmt_form_built (StmtForm-F.Check e) small p rest more = expr_built e small (item.Check p ∷ rest) (built (item.Check p) rest tt more)
 stmt_form_built (StmtForm-F.Print args) small p rest more = args_built args small (item.Print args ∷ rest) (built (item.Print args) rest tt more)
@@ -120,6 +126,8 @@ stmt_form_built form small p rest more = cc
 making_is : (k : ℕ) (form : StmtForm-F StmtForm Stmt) (s : Stmt) (more : ℕ → Items → Items) (rest : Items) → is_small_stmt_form form ≡ true → making_form k form s more rest ≡ stmt_items s (more k rest)
 making_is zero form s more rest small = refl
 making_is (suc k) StmtForm-F.Pass s more rest small = refl
+making_is (suc k) (StmtForm-F.Fold i) s more rest small = refl
+making_is (suc k) (StmtForm-F.Unfold i) s more rest small = refl
 making_is (suc k) (StmtForm-F.Store i e) s more rest small = refl
 making_is (suc k) (StmtForm-F.Check e) s more rest small = refl
 making_is (suc k) (StmtForm-F.Print args) s more rest small = refl

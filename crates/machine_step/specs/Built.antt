@@ -13,12 +13,19 @@ use Rattle.machine_model.specs.declared.state.State.{State}
 abbrev pub IsBuiltItem : Item Value → Type 0
 IsBuiltItem item.Begin = ⊤
 IsBuiltItem (item.Num n) = ⊤
+IsBuiltItem (item.Truth b) = ⊤
+IsBuiltItem item.Nil = ⊤
 IsBuiltItem (item.Load i) = ⊤
+IsBuiltItem (item.Un p key) = ⊤
 IsBuiltItem (item.Bin p key) = ⊤
 IsBuiltItem (item.Store i) = ⊤
 IsBuiltItem (item.Check p) = ⊤
 IsBuiltItem (item.Print args) = ⊤
+IsBuiltItem (item.NotNil p) = ⊤
+IsBuiltItem item.Drop = ⊤
 IsBuiltItem item.Pass = ⊤
+IsBuiltItem (item.Fold p i) = ⊤
+IsBuiltItem (item.Unfold p i) = ⊤
 IsBuiltItem item.End = ⊤
 IsBuiltItem i = ⊥
 

@@ -1,4 +1,4 @@
--- The modules that `step` runs so far: `main` has assignments to locals, asserts, prints and `pass` alone, over numbers, locals and operators between two operands, and no conditions.
+-- The modules that `step` runs so far: `main` has no conditions and no statements but assignments to locals, asserts, prints, `pass`, `Fold` and `Unfold`, over numbers, truth values, None, locals, operators of one or two operands, and operands that must not be None.
 use Rattle.std.specs.Prelude.{◌≡◌, Bool, true, false, ◌&&◌, IsTrue, [], All, IfSome, slice_get}
 use Rattle.std.specs.List.{list_all}
 use Rattle.py_syntax.specs.declared.Expr.{Expr, fold-Expr}
@@ -13,8 +13,12 @@ use Rattle.py_syntax.specs.declared.Module.{Module}
 -- a form whose parts are small or not
 abbrev pub is_small_form : ExprForm-F Bool Bool (Unit {0}) → Bool
 is_small_form (ExprForm-F.Num n) = true
+is_small_form (ExprForm-F.Truth b) = true
+is_small_form ExprForm-F.Nil = true
 is_small_form (ExprForm-F.Local i) = true
+is_small_form (ExprForm-F.Un key a) = a
 is_small_form (ExprForm-F.Bin key a b) = a && b
+is_small_form (ExprForm-F.NotNil e) = e
 is_small_form form = false
 
 abbrev pub is_small : Expr → Bool
@@ -26,6 +30,8 @@ is_small_argument (Literal text) = true
 
 abbrev pub is_small_stmt_form : StmtForm-F StmtForm Stmt → Bool
 is_small_stmt_form StmtForm-F.Pass = true
+is_small_stmt_form (StmtForm-F.Fold i) = true
+is_small_stmt_form (StmtForm-F.Unfold i) = true
 is_small_stmt_form (StmtForm-F.Store i e) = is_small e
 is_small_stmt_form (StmtForm-F.Check e) = is_small e
 is_small_stmt_form (StmtForm-F.Print args) = list_all is_small_argument args

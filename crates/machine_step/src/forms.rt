@@ -59,12 +59,19 @@ fn is_built_item(item: &Item<Value>) -> bool
     match item {
         Item::Begin
         | Item::Num(_)
+        | Item::Truth(_)
+        | Item::Nil
         | Item::Load(_)
+        | Item::Un(_, _)
         | Item::Bin(_, _)
         | Item::Store(_)
         | Item::Check(_)
         | Item::Print(_)
         | Item::Pass
+        | Item::NotNil(_)
+        | Item::Drop
+        | Item::Fold(_, _)
+        | Item::Unfold(_, _)
         | Item::End => true,
         _ => false,
     }

@@ -5,7 +5,7 @@ ghost use Rattle.machine_model.specs.declared.state.Object.{Object as Thing};
 ghost use Rattle.machine_model.specs.declared.state.ThreadState.{ThreadState as Thread};
 ghost use Rattle.machine_model.specs.Results.{Got, then_do};
 ghost use Rattle.machine_model.specs.Frames.{pop_value, local_at, stored, stays};
-ghost use Rattle.machine_model.specs.Items.{act, applies_binary, checks, prints, pushes, with_stack};
+ghost use Rattle.machine_model.specs.Items.{act, applies_binary, applies_unary, checks, prints, pushes, tests_not_nil, with_stack};
 ghost use Rattle.machine_step.specs.Agreement.{Agrees};
 ghost use Rattle.machine_step.specs.Bits.{has_128_bits};
 ghost use Rattle.machine_step.specs.Built.{HasNoConditions, IsBuiltItem};
@@ -13,7 +13,7 @@ ghost use Rattle.machine_step.specs.Changes.{begun, done};
 
 use crate::change::Deed;
 use crate::ending::end;
-use crate::operators::{binary, test_divisor};
+use crate::operators::{binary, test_divisor, unary};
 use crate::print::print;
 use crate::stop::Stop;
 use crate::values::{local, top_truth, value_at};
@@ -26,6 +26,13 @@ fn load(i: u32, frame: &Frame) -> Result<Deed, Stop>
     ensures { (heap : List Thing) (first : Bool) → Agrees (pushes heap [] (begun first frame.now) (local_at i frame.now.store)) result (λ d. done d heap (begun first frame.now)) }
 {
     Ok(Deed::pushing(0, local(i, &frame.store)?))
+}
+
+fn apply_unary(p: Place, key: u16, frame: &Frame) -> Result<Deed, Stop>
+    ensures { (heap : List Thing) (first : Bool) → Agrees (applies_unary has_128_bits p key heap (begun first frame.now) []) result (λ d. done d heap (begun first frame.now)) }
+{
+    let a = value_at(0, &frame.stack)?;
+    Ok(Deed::pushing(1, unary(p, key, a)?))
 }
 
 fn apply_binary(p: Place, key: u16, frame: &Frame) -> Result<Deed, Stop>
@@ -45,6 +52,22 @@ fn store(i: u32, frame: &Frame) -> Result<Deed, Stop>
         return Err(Stop::Halt(Halt::NoOperand));
     }
     Ok(Deed::storing(i, value))
+}
+
+fn drop_value(frame: &Frame) -> Result<Deed, Stop>
+    ensures { (heap : List Thing) (first : Bool) → Agrees (then_do (pop_value frame.now.stack) (λ v. stays heap (with_stack v.1 (begun first frame.now)) [])) result (λ d. done d heap (begun first frame.now)) }
+{
+    value_at(0, &frame.stack)?;
+    Ok(Deed::dropping(1))
+}
+
+fn test_not_nil(p: Place, frame: &Frame) -> Result<Deed, Stop>
+    ensures { (heap : List Thing) (first : Bool) → Agrees (tests_not_nil p heap (begun first frame.now) []) result (λ d. done d heap (begun first frame.now)) }
+{
+    match value_at(0, &frame.stack)? {
+        Value::Nil => Err(Stop::Halt(Halt::Failed(Kind::NoneValue, p))),
+        _ => Ok(Deed::dropping(0)),
+    }
 }
 
 fn check(p: Place, frame: &Frame) -> Result<Deed, Stop>
@@ -73,12 +96,17 @@ pub fn deed_of(
     match item {
         Item::Begin => Err(Stop::Halt(Halt::NoOperand)),
         Item::Num(n) => Ok(Deed::pushing(0, Value::Num(*n))),
+        Item::Truth(truth) => Ok(Deed::pushing(0, Value::Truth(*truth))),
+        Item::Nil => Ok(Deed::pushing(0, Value::Nil)),
         Item::Load(i) => load(*i, frame),
+        Item::Un(p, key) => apply_unary(*p, *key, frame),
         Item::Bin(p, key) => apply_binary(*p, *key, frame),
         Item::Store(i) => store(*i, frame),
         Item::Check(p) => check(*p, frame),
         Item::Print(args) => print(alloc, args.as_slice(), frame),
-        Item::Pass => Ok(Deed::dropping(0)),
+        Item::NotNil(p) => test_not_nil(*p, frame),
+        Item::Drop => drop_value(frame),
+        Item::Pass | Item::Fold(_, _) | Item::Unfold(_, _) => Ok(Deed::dropping(0)),
         Item::End => end(m, thread, heap, frame),
         _ => unreachable!(),
     }

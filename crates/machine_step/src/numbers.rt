@@ -21,7 +21,8 @@ fn sum(p: Place, x: i128, y: i128) -> Result<Value, Stop>
     }
 }
 
-fn difference(p: Place, x: i128, y: i128) -> Result<Value, Stop>
+/// `x - y`
+pub fn difference(p: Place, x: i128, y: i128) -> Result<Value, Stop>
     ensures { Agrees (sized has_128_bits p (Num (x -ℤ y))) result (λ v. v) }
 {
     match x.checked_sub(y) {

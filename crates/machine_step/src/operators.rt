@@ -7,7 +7,7 @@ ghost use Rattle.py_base.specs.declared.Kind.TheVariants.{ZeroDivisor};
 ghost use Rattle.machine_step.specs.Agreement.{Agrees};
 ghost use Rattle.machine_step.specs.Bits.{has_128_bits};
 
-use crate::numbers::on_numbers;
+use crate::numbers::{difference, on_numbers};
 use crate::stop::Stop;
 use machine_model::Halt;
 use py_base::{Kind, Place};
@@ -31,6 +31,17 @@ fn on_references(p: Place, key: u16, same: bool) -> Result<Value, Stop>
     match key {
         15 => Ok(Value::Truth(same)),
         16 => Ok(Value::Truth(!same)),
+        _ => Err(Stop::Halt(Halt::NoOperand)),
+    }
+}
+
+/// A prefix operator on a value, whose number must fit.
+pub fn unary(p: Place, key: u16, a: Value) -> Result<Value, Stop>
+    ensures { Agrees (then_do (operand (operators.unary key a)) (sized has_128_bits p)) result (λ v. v) }
+{
+    match a {
+        Value::Num(x) if key == 6 => difference(p, 0, x),
+        Value::Truth(b) if key == 17 => Ok(Value::Truth(!b)),
         _ => Err(Stop::Halt(Halt::NoOperand)),
     }
 }

@@ -5,8 +5,8 @@ ghost use Rattle.machine_step.specs.Built.{IsBuilt};
 use super::*;
 use crate::numbers::on_numbers;
 use crate::stop::Stop;
-use machine_model::{Halt, Moved, State, start};
-use py_base::Place;
+use machine_model::{Halt, Moved, State, Trace, start};
+use py_base::{Place, Text};
 use py_syntax::{Expr, ExprForm, Method, Module, PrintArg, Stmt, StmtForm, Ty, Value};
 use sqlite_items::{Boxed, Items};
 use std::alloc::{AllocError, Global};
@@ -63,6 +63,22 @@ fn wide_body(alloc: Global) -> Result<Items<Stmt>, AllocError> {
     let one = expr(2, 51, ExprForm::Num(1));
     let sum = binary(alloc, 2, 49, 1, most, one)?;
     body.push(stmt(2, StmtForm::Store(0, sum)))?;
+    Ok(body)
+}
+
+fn prefix(alloc: Global, col: u32, key: u16, a: ExprForm) -> Result<PrintArg, AllocError> {
+    let form = ExprForm::Un(key, Boxed::new(alloc, expr(2, col + 1, a))?);
+    Ok(PrintArg::Value(expr(2, col, form)))
+}
+
+// `print(not True, "and", -5)`.
+fn printing_body(alloc: Global) -> Result<Items<Stmt>, AllocError> {
+    let mut args = Items::new(alloc);
+    args.push(prefix(alloc, 11, 17, ExprForm::Truth(true))?)?;
+    args.push(PrintArg::Literal(Text::of(b"and".to_vec(alloc)?)))?;
+    args.push(prefix(alloc, 28, 6, ExprForm::Num(5))?)?;
+    let mut body = Items::new(alloc);
+    body.push(stmt(2, StmtForm::Print(args)))?;
     Ok(body)
 }
 
@@ -183,6 +199,26 @@ fn a_false_assert_fails_at_its_statement(rt: HostRuntime) -> Result<(), Fail> {
         second.as_str(),
         "Failed(Assert, Place { line: 3, col: 5 })"
     );
+    Ok(())
+}
+
+#[test]
+fn a_line_has_the_texts_of_its_arguments(rt: HostRuntime) -> Result<(), Fail> {
+    let alloc = rt.alloc();
+    let m = module(alloc, printing_body(alloc)?)?;
+    let mut s = begun(alloc, &m)?;
+    walk(alloc, &m, &mut s, 4)?;
+    match step(alloc, &m, &mut s, 0) {
+        Ok(
+            Moved::Went(
+                Trace {
+                    event: None,
+                    line: Some(line),
+                },
+            ),
+        ) => assert_eq!(rt; line.bytes(), b"False and -5".as_slice()),
+        _ => return Err(Fail::from("no line")),
+    }
     Ok(())
 }
 

@@ -28,3 +28,15 @@ returns-in-Print c = λ threads first.
 pub returns-in-End : goal.returns-in-End
 returns-in-End c = λ threads first.
     act_agrees has_128_bits c.args.m.now c.args.thread threads c.args.heap.now (begun first c.args.frame.now) c.args.item.now (item.End) c.end.result c.in-End.is (c.end.ensures first)
+
+pub returns-in-Un : goal.returns-in-Un
+returns-in-Un c = λ threads first.
+    act_agrees has_128_bits c.args.m.now c.args.thread threads c.args.heap.now (begun first c.args.frame.now) c.args.item.now (item.Un c.in-Un.p c.in-Un.key) c.apply_unary.result c.in-Un.is (c.apply_unary.ensures c.args.heap.now first)
+
+pub returns-in-NotNil : goal.returns-in-NotNil
+returns-in-NotNil c = λ threads first.
+    act_agrees has_128_bits c.args.m.now c.args.thread threads c.args.heap.now (begun first c.args.frame.now) c.args.item.now (item.NotNil c.in-NotNil.p) c.test_not_nil.result c.in-NotNil.is (c.test_not_nil.ensures c.args.heap.now first)
+
+pub returns-in-Drop : goal.returns-in-Drop
+returns-in-Drop c = λ threads first.
+    act_agrees has_128_bits c.args.m.now c.args.thread threads c.args.heap.now (begun first c.args.frame.now) c.args.item.now (item.Drop) c.drop_value.result c.in-Drop.is (c.drop_value.ensures c.args.heap.now first)
