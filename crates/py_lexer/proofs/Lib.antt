@@ -1,1 +1,2 @@
 pub mod CharacterCount
+pub mod LongestWord

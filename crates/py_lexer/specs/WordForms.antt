@@ -1,6 +1,6 @@
 -- Names, keywords and numbers by their characters. (Language Reference, "Identifiers and keywords" and "Integer literals"; Unicode Standard Annex 31 for XID_Start and XID_Continue.)
 use Rattle.std.specs.Prelude.{ℕ, Bool, true, false, not, ◌&&◌, ◌||◌, List, [], ◌∷◌, ◌+◌, ◌-◌, ◌*◌, ◌==◌, nat_le, codes, fold, filter, if◌then◌else◌}
-use Rattle.std.specs.List.{list_all}
+use Rattle.std.specs.List.{list_all, prefix_len}
 use Rattle.unicode_ident.specs.Ident.{is_xid_start, is_xid_continue}
 use Rattle.py_lexer.specs.declared.token.Keyword.{Keyword}
 use Rattle.py_lexer.specs.declared.token.Keyword.TheVariants as keys
@@ -12,6 +12,11 @@ begins_word c = is_xid_start c || (c == 95)
 abbrev pub is_word : List ℕ → Bool
 is_word [] = false
 is_word (c ∷ cs) = begins_word c && list_all is_xid_continue cs
+
+-- how many characters the longest word in front has, or 0
+abbrev pub word_len : List ℕ → ℕ
+word_len [] = 0
+word_len (c ∷ cs) = if begins_word c then 1 + prefix_len is_xid_continue cs else 0
 
 abbrev pub keyword_text : Keyword → List ℕ
 keyword_text keys.False = codes "False"

@@ -6,11 +6,13 @@ mod fault;
 mod places;
 mod spot;
 mod token;
+mod words;
 
 pub use fault::LexFault;
 pub use places::{TextSpots, characters};
 pub use spot::Spot;
 pub use token::{Keyword, Mark, Token, TokenForm};
+pub use words::split_word;
 
 #[cfg(test)]
 mod tests;
