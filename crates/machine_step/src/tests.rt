@@ -1,6 +1,4 @@
 // What no clause says: that steps of small modules are taken, and how many there are.
-ghost use Rattle.std.specs.Prelude.{IfOk};
-ghost use Rattle.machine_step.specs.Built.{IsBuilt};
 
 use super::*;
 use crate::numbers::on_numbers;
@@ -66,17 +64,17 @@ fn wide_body(alloc: Global) -> Result<Items<Stmt>, AllocError> {
     Ok(body)
 }
 
-fn prefix(alloc: Global, col: u32, key: u16, a: ExprForm) -> Result<PrintArg, AllocError> {
-    let form = ExprForm::Un(key, Boxed::new(alloc, expr(2, col + 1, a))?);
+fn prefix(alloc: Global, col: u32, key: u16, a: Expr) -> Result<PrintArg, AllocError> {
+    let form = ExprForm::Un(key, Boxed::new(alloc, a)?);
     Ok(PrintArg::Value(expr(2, col, form)))
 }
 
 // `print(not True, "and", -5)`.
 fn printing_body(alloc: Global) -> Result<Items<Stmt>, AllocError> {
     let mut args = Items::new(alloc);
-    args.push(prefix(alloc, 11, 17, ExprForm::Truth(true))?)?;
+    args.push(prefix(alloc, 11, 17, expr(2, 15, ExprForm::Truth(true)))?)?;
     args.push(PrintArg::Literal(Text::of(b"and".to_vec(alloc)?)))?;
-    args.push(prefix(alloc, 28, 6, ExprForm::Num(5))?)?;
+    args.push(prefix(alloc, 28, 6, expr(2, 29, ExprForm::Num(5)))?)?;
     let mut body = Items::new(alloc);
     body.push(stmt(2, StmtForm::Print(args)))?;
     Ok(body)
@@ -110,41 +108,36 @@ fn module(alloc: Global, body: Items<Stmt>) -> Result<Module, AllocError> {
 }
 
 // The start of a run of a module with this body.
-fn begun(alloc: Global, m: &Module) -> Result<State, Fail>
-    ensures { IfOk result (λ s. IsBuilt m.now s) }
-{
-    let s = start(alloc, m).map_err(|_| "no memory")?;
-    if is_built(m, &s) {
-        Ok(s)
-    } else {
-        Err(Fail::from("not built"))
-    }
+fn begun(alloc: Global, m: &Module) -> Result<State, Fail> {
+    Ok(start(alloc, m).map_err(|_| "no memory")?)
 }
 
 // What a step answers.
-fn told(alloc: Global, m: &Module, s: &mut State, thread: u32) -> Result<String, Fail>
-    requires { IsBuilt m.now s.old }
-    ensures { IsBuilt m.now s.new }
-{
+fn told(alloc: Global, m: &Module, s: &mut State, thread: u32) -> Result<String, Fail> {
+    if !is_built(m, s) {
+        return Err(Fail::from("not built"));
+    }
     match step(alloc, m, s, thread) {
         Ok(moved) => Ok(format!(in alloc; "{moved:?}")?),
         Err(fault) => Ok(format!(in alloc; "{fault:?}")?),
     }
 }
 
+// A step of thread 0 that shows nothing.
+fn quiet_step(alloc: Global, m: &Module, s: &mut State) -> Result<(), Fail> {
+    if !is_built(m, s) || !can_move(m, s, 0) {
+        return Err(Fail::from("cannot move"));
+    }
+    match step(alloc, m, s, 0) {
+        Ok(Moved::Went(trace)) if trace.line.is_none() && trace.event.is_none() => Ok(()),
+        _ => Err(Fail::from("no quiet step")),
+    }
+}
+
 // Takes so many steps of thread 0, which show nothing.
-fn walk(alloc: Global, m: &Module, s: &mut State, steps: usize) -> Result<(), Fail>
-    requires { IsBuilt m.now s.old }
-    ensures { IsBuilt m.now s.new }
-{
+fn walk(alloc: Global, m: &Module, s: &mut State, steps: usize) -> Result<(), Fail> {
     for _ in 0..steps {
-        if !can_move(m, s, 0) {
-            return Err(Fail::from("cannot move"));
-        }
-        match step(alloc, m, s, 0) {
-            Ok(Moved::Went(trace)) if trace.line.is_none() && trace.event.is_none() => {}
-            _ => return Err(Fail::from("no quiet step")),
-        }
+        quiet_step(alloc, m, s)?;
     }
     Ok(())
 }
@@ -208,6 +201,9 @@ fn a_line_has_the_texts_of_its_arguments(rt: HostRuntime) -> Result<(), Fail> {
     let m = module(alloc, printing_body(alloc)?)?;
     let mut s = begun(alloc, &m)?;
     walk(alloc, &m, &mut s, 4)?;
+    if !is_built(&m, &s) {
+        return Err(Fail::from("not built"));
+    }
     match step(alloc, &m, &mut s, 0) {
         Ok(
             Moved::Went(
