@@ -21,4 +21,6 @@ pub use schedule::{STEP_LIMIT, Schedule, ScheduleLine};
 pub use under_schedule::run;
 
 #[cfg(test)]
+mod run_tests;
+#[cfg(test)]
 mod tests;
