@@ -2,8 +2,8 @@
 use Rattle.std.proofs.Common.{ℕ, suc, ◌≡◌, ◌+◌, ◌&&◌, Bool, true, false, cond, arith, refl, sym, ap, ◌∙◌, subst, List, [], ◌∷◌, ◌++◌, take, drop}
 use Rattle.std.specs.List.{list_all, prefix_len}
 use Rattle.unicode_ident.specs.Ident.{is_xid_continue}
-use Rattle.py_lexer.specs.TextPieces.{Longest, IsWord}
-use Rattle.py_lexer.specs.WordForms.{begins_word, word_len}
+use Rattle.py_tokens.specs.TextPieces.{Longest, IsWord}
+use Rattle.py_tokens.specs.WordForms.{begins_word, word_len}
 
 both : (a b : Bool) → (a && b) ≡ true → (a ≡ true) × (b ≡ true)
 both true b h = (refl, h)

@@ -1,7 +1,7 @@
 // The characters of a text and their places.
 ghost use Rattle.std.specs.Prelude.{◌≡◌, ◌<◌, ◌+◌, ◌^◌, IfOk, IfErr, MatchResult, length, ◌≤◌};
 ghost use Rattle.std.specs.Str.{IsUtf8, IsValidUpTo, chars};
-ghost use Rattle.py_lexer.specs.PlacedText.{
+ghost use Rattle.py_tokens.specs.PlacedText.{
   begins_with_lf,
   without_order_mark,
   with_line_ends,
@@ -13,8 +13,8 @@ ghost use Rattle.py_lexer.specs.PlacedText.{
   IsBadByteAt,
 };
 
-use crate::fault::LexFault;
-use crate::spot::Spot;
+use py_tokens::LexFault;
+use py_tokens::Spot;
 use py_base::Place;
 use std::alloc::{AllocError, Global};
 

@@ -1,6 +1,7 @@
 // What no clause says: that calls succeed, and that the places are those that a reader expects.
 use super::*;
 use py_base::Place;
+use py_tokens::LexFault;
 use std::alloc::Global;
 
 // The place just after the last character, or the fault; None for texts that are too long here.

@@ -2,8 +2,8 @@
 ghost use Rattle.std.specs.Prelude.{◌≡◌, ◌≤◌, ◌++◌, ◌||◌, ◌==◌, ℕ, List, IsNone, IfSome, length};
 ghost use Rattle.std.specs.List.{prefix_len};
 ghost use Rattle.unicode_ident.specs.Ident.{is_xid_continue};
-ghost use Rattle.py_lexer.specs.TextPieces.{Longest, IsWord};
-ghost use Rattle.py_lexer.specs.WordForms.{begins_word, word_len};
+ghost use Rattle.py_tokens.specs.TextPieces.{Longest, IsWord};
+ghost use Rattle.py_tokens.specs.WordForms.{begins_word, word_len};
 
 /// The longest word in front, a name or a keyword, and what stands behind it.
 #[tactic(auto, using(crate::proofs::LongestWord::longest_word, crate::proofs::LongestWord::no_word))]

@@ -1,5 +1,5 @@
 use Rattle.std.proofs.Common.{◌≡◌, ◌≤◌, ◌+◌, ◌++◌, length}
-use Rattle.py_lexer.specs.PlacedText.{placed, after, with_line_ends, text_start}
+use Rattle.py_tokens.specs.PlacedText.{placed, after, with_line_ends, text_start}
 use Rattle.py_lexer.proofs.places.place_all.Given as goal
 
 abbrev pub invariant-codes : goal.invariant-codes

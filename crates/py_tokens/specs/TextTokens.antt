@@ -4,14 +4,14 @@ use Rattle.std.specs.Str.{IsUtf8, chars}
 use Rattle.unicode_normalization.specs.Forms.{IsInForm}
 use Rattle.unicode_normalization.specs.declared.Form.TheVariants as normal
 use Rattle.py_base.specs.declared.Place.{Place}
-use Rattle.py_lexer.specs.declared.token.Token.{Token}
-use Rattle.py_lexer.specs.declared.token.TokenForm.TheVariants as forms
-use Rattle.py_lexer.specs.declared.token.Keyword.{Keyword}
-use Rattle.py_lexer.specs.declared.fault.LexFault.{LexFault}
-use Rattle.py_lexer.specs.declared.fault.LexFault.TheVariants as faults
-use Rattle.py_lexer.specs.PlacedText.{text_characters, text_start, after, IsBadByteAt}
-use Rattle.py_lexer.specs.TextPieces.{Shape, Whole, Space, Tab, BadEscape, Unclosed, Stray, Piece, CutInto}
-use Rattle.py_lexer.specs.LineLayout.{Between, before_all, Fresh, width_at, LaidOut, EndsWith}
+use Rattle.py_tokens.specs.declared.token.Token.{Token}
+use Rattle.py_tokens.specs.declared.token.TokenForm.TheVariants as forms
+use Rattle.py_tokens.specs.declared.token.Keyword.{Keyword}
+use Rattle.py_tokens.specs.declared.fault.LexFault.{LexFault}
+use Rattle.py_tokens.specs.declared.fault.LexFault.TheVariants as faults
+use Rattle.py_tokens.specs.PlacedText.{text_characters, text_start, after, IsBadByteAt}
+use Rattle.py_tokens.specs.TextPieces.{Shape, Whole, Space, Tab, BadEscape, Unclosed, Stray, Piece, CutInto}
+use Rattle.py_tokens.specs.LineLayout.{Between, before_all, Fresh, width_at, LaidOut, EndsWith}
 
 -- the bytes are UTF-8, and their characters are these pieces
 abbrev pub PiecesOf : List ℕ → List Piece → Type 0

@@ -2,8 +2,8 @@
 use Rattle.std.specs.Prelude.{ℕ, Bool, true, false, not, ◌&&◌, ◌||◌, List, [], ◌∷◌, ◌+◌, ◌-◌, ◌*◌, ◌==◌, nat_le, codes, fold, filter, if◌then◌else◌}
 use Rattle.std.specs.List.{list_all, prefix_len}
 use Rattle.unicode_ident.specs.Ident.{is_xid_start, is_xid_continue}
-use Rattle.py_lexer.specs.declared.token.Keyword.{Keyword}
-use Rattle.py_lexer.specs.declared.token.Keyword.TheVariants as keys
+use Rattle.py_tokens.specs.declared.token.Keyword.{Keyword}
+use Rattle.py_tokens.specs.declared.token.Keyword.TheVariants as keys
 
 -- A word begins with a character of XID_Start or `_`, and goes on with characters of XID_Continue.
 abbrev pub begins_word : ℕ → Bool

@@ -1,7 +1,7 @@
 -- The marks by their characters. (Language Reference, "Operators" and "Delimiters".)
 use Rattle.std.specs.Prelude.{ℕ, List, codes}
-use Rattle.py_lexer.specs.declared.token.Mark.{Mark}
-use Rattle.py_lexer.specs.declared.token.Mark.TheVariants as marks
+use Rattle.py_tokens.specs.declared.token.Mark.{Mark}
+use Rattle.py_tokens.specs.declared.token.Mark.TheVariants as marks
 
 abbrev pub mark_text : Mark → List ℕ
 mark_text marks.OpenParen = codes "("

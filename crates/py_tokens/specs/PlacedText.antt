@@ -2,7 +2,7 @@
 use Rattle.std.specs.Prelude.{ℕ, Bool, false, List, [], ◌∷◌, ◌+◌, ◌≡◌, ◌==◌, take, if◌then◌else◌}
 use Rattle.std.specs.Str.{IsValidUpTo, chars}
 use Rattle.py_base.specs.declared.Place.{Place}
-use Rattle.py_lexer.specs.declared.spot.Spot.{Spot}
+use Rattle.py_tokens.specs.declared.spot.Spot.{Spot}
 
 -- A byte order mark in front is skipped.
 abbrev pub without_order_mark : List ℕ → List ℕ

@@ -28,7 +28,7 @@ pub enum LexFault {
 
 impl From<AllocError> for LexFault {
     ghost use Rattle.std.specs.Prelude.{◌≡◌};
-    ghost use Rattle.py_lexer.specs.declared.fault.LexFault.TheVariants as faults;
+    ghost use Rattle.py_tokens.specs.declared.fault.LexFault.TheVariants as faults;
 
     ghost from_gives = { λ _ e. e ≡ faults.OutOfMemory };
 
@@ -39,7 +39,7 @@ impl From<AllocError> for LexFault {
 
 impl<T: Drop> From<AllocFailed<T>> for LexFault {
     ghost use Rattle.std.specs.Prelude.{◌≡◌};
-    ghost use Rattle.py_lexer.specs.declared.fault.LexFault.TheVariants as faults;
+    ghost use Rattle.py_tokens.specs.declared.fault.LexFault.TheVariants as faults;
 
     ghost from_gives = { λ _ e. e ≡ faults.OutOfMemory };
 

@@ -2,14 +2,14 @@
 use Rattle.std.specs.Prelude.{ℕ, pos, List, [], ◌∷◌, ◌++◌, ◌≡◌, ◌⊎◌, ◌==◌, not, IsTrue, encode_utf8_all}
 use Rattle.std.specs.List.{list_all}
 use Rattle.py_base.specs.declared.Place.{Place}
-use Rattle.py_lexer.specs.declared.token.TokenForm.{TokenForm}
-use Rattle.py_lexer.specs.declared.token.TokenForm.TheVariants as forms
-use Rattle.py_lexer.specs.declared.token.Keyword.{Keyword}
-use Rattle.py_lexer.specs.declared.token.Mark.{Mark}
-use Rattle.py_lexer.specs.PlacedText.{after}
-use Rattle.py_lexer.specs.WordForms.{is_word, keyword_text, is_number, number_value}
-use Rattle.py_lexer.specs.MarkForms.{mark_text}
-use Rattle.py_lexer.specs.StringForms.{Quotes, Part, LoneBackslash, OpensWith, SpellsString, IsOpenString, StandsFor, characters_of, quote_text}
+use Rattle.py_tokens.specs.declared.token.TokenForm.{TokenForm}
+use Rattle.py_tokens.specs.declared.token.TokenForm.TheVariants as forms
+use Rattle.py_tokens.specs.declared.token.Keyword.{Keyword}
+use Rattle.py_tokens.specs.declared.token.Mark.{Mark}
+use Rattle.py_tokens.specs.PlacedText.{after}
+use Rattle.py_tokens.specs.WordForms.{is_word, keyword_text, is_number, number_value}
+use Rattle.py_tokens.specs.MarkForms.{mark_text}
+use Rattle.py_tokens.specs.StringForms.{Quotes, Part, LoneBackslash, OpensWith, SpellsString, IsOpenString, StandsFor, characters_of, quote_text}
 
 -- What a piece is: a token, what separates tokens, or what no text with tokens has: a string with a backslash that begins no escape, by the characters in front of the first such backslash; a string without its end; a character that begins no token.
 pub data Shape : Type 0 where

@@ -1,12 +1,12 @@
 -- The layout of lines: the ends of lines and the stack of widths. (Language Reference, "Logical lines", "Implicit line joining", "Blank lines" and "Indentation".)
 use Rattle.std.specs.Prelude.{ℕ, ◌+◌, ◌-◌, ◌<◌, ◌==◌, ◌≡◌, ◌⊎◌, List, [], ◌∷◌, ◌++◌, if◌then◌else◌}
 use Rattle.py_base.specs.declared.Place.{Place}
-use Rattle.py_lexer.specs.declared.token.Token.{Token}
-use Rattle.py_lexer.specs.declared.token.TokenForm.{TokenForm}
-use Rattle.py_lexer.specs.declared.token.TokenForm.TheVariants as forms
-use Rattle.py_lexer.specs.declared.token.Mark.{Mark}
-use Rattle.py_lexer.specs.declared.token.Mark.TheVariants as marks
-use Rattle.py_lexer.specs.TextPieces.{Whole, Space, Tab, Comment, LineEnd, Piece}
+use Rattle.py_tokens.specs.declared.token.Token.{Token}
+use Rattle.py_tokens.specs.declared.token.TokenForm.{TokenForm}
+use Rattle.py_tokens.specs.declared.token.TokenForm.TheVariants as forms
+use Rattle.py_tokens.specs.declared.token.Mark.{Mark}
+use Rattle.py_tokens.specs.declared.token.Mark.TheVariants as marks
+use Rattle.py_tokens.specs.TextPieces.{Whole, Space, Tab, Comment, LineEnd, Piece}
 
 -- a line that has no token so far, or the end of its last token
 pub data Line : Type 0 where
