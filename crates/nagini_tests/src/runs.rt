@@ -36,6 +36,7 @@ fn a_run_prints_its_output_and_then_its_end(rt: HostRuntime) -> Result<(), Fail>
             3,
             "7\nstopped 5 Assert 3:5 thread 0\n",
         ),
+        (SMALLEST, "schedule 1\r\n# all\r\n\r\nfair 11", 0, "3\n"),
     ] {
         assert!(rt;
             gives(
