@@ -16,11 +16,12 @@ use Rattle.lin_rows.specs.DerivedLaws.{derived-below, derived-absent}
 use Rattle.lin_rows.specs.TermLaws.{value-same}
 use Rattle.lin_rows.specs.Points.{valuation, Lists}
 use Rattle.lin_solver.specs.declared.levels.Level.{Level}
-use Rattle.lin_solver.specs.Numbers.{HasRow, HaveRows, IsLive, BoundsAbove, BoundsBelow}
+use Rattle.lin_solver.specs.Numbers.{HasRow, HaveRows, Implies, FollowsFrom, IsLive, BoundsAbove, BoundsBelow}
 use Rattle.lin_solver.specs.Variables.{HasNoneFrom, HasNoneBetween, IsNextVariable}
-use Rattle.lin_solver.specs.Levels.{IsInPart, IsLevel, AreLevels, AreLevelsOf}
+use Rattle.lin_solver.specs.Levels.{IsKept, IsLevel, AreLevels, AreLevelsOf}
 use Rattle.lin_solver.specs.WayBack.{IsMetAt, IsSolution, IsOnWay, HasNoneBelow, IsReady, IsReached}
 use Rattle.lin_solver.proofs.NumberLemmas.{one_row, at_given, have_weaker}
+use Rattle.lin_solver.proofs.WayLemmas.{met_implied}
 
 -- The point is one of the variables from the levels' first on, and meets the rows that are live there,
 -- which have no lower variable.
@@ -111,8 +112,11 @@ on_way_from rows from v p next on = record {
 none_lower : (m n : ℕ) (r : Row) → m ≤ n → HasNoneBelow n r → HasNoneBelow m r
 none_lower m n r le none w lt = none w (omega arith)
 
+none_implied : (n : ℕ) (s r : Row) → Implies s r → HasNoneBelow n s → HasNoneBelow n r
+none_implied n s r (same, le) none w lt = ap (λ c. coef_at c w) (sym same) ∙ none w lt
+
 -- each live row is met once the level's variable has its value
-part_met : (rows : List Row) (steps : List ComboStep) (from : ℕ) (live : List ℕ) (level : Level) (next : List ℕ) (p p' : Point) (i : ℕ) → from ≤ level.var → IsLevel rows steps live level next → HaveRows rows steps (λ r. IsMetAt p r × HasNoneBelow (level.var + 1) r) next → IsReached rows steps level p p' → IsInPart level.above level.below next i → HasRow rows steps (λ r. IsMetAt p' r × HasNoneBelow from r) i
+part_met : (rows : List Row) (steps : List ComboStep) (from : ℕ) (live : List ℕ) (level : Level) (next : List ℕ) (p p' : Point) (i : ℕ) → from ≤ level.var → IsLevel rows steps live level next → HaveRows rows steps (λ r. IsMetAt p r × HasNoneBelow (level.var + 1) r) next → IsReached rows steps level p p' → IsKept rows steps level.above level.below next i → HasRow rows steps (λ r. IsMetAt p' r × HasNoneBelow from r) i
 part_met rows steps from live level next p p' i le is met reached (inl h) =
     let (r, at, bounds) = All-contains (HasRow rows steps (BoundsAbove rows level.var)) level.above i is.above h in
     let here = one_row rows steps (IsMetAt p') i r at (All-contains (HasRow rows steps (IsMetAt p')) level.above i reached.above h) in
@@ -121,9 +125,9 @@ part_met rows steps from live level next p p' i le is met reached (inr (inl h)) 
     let (r, at, bounds) = All-contains (HasRow rows steps (BoundsBelow rows level.var)) level.below i is.below h in
     let here = one_row rows steps (IsMetAt p') i r at (All-contains (HasRow rows steps (IsMetAt p')) level.below i reached.below h) in
     (r, at, (here, none_lower from level.var r le (derived-below rows level.var r bounds.0)))
-part_met rows steps from live level next p p' i le is met reached (inr (inr h)) =
-    let (r, at, (here, none)) = All-contains (HasRow rows steps (λ r. IsMetAt p r × HasNoneBelow (level.var + 1) r)) next i met h in
-    (r, at, (reached.later r none here, none_lower from (level.var + 1) r (up_one from level.var le) none))
+part_met rows steps from live level next p p' i le is met reached (inr (inr (r, at, (n, there, (s, f, implies))))) =
+    let (here, none) = one_row rows steps (λ r. IsMetAt p r × HasNoneBelow (level.var + 1) r) n s f (All-contains (HasRow rows steps (λ r. IsMetAt p r × HasNoneBelow (level.var + 1) r)) next n met there) in
+    (r, at, (met_implied p' s r reached.on_way.positive implies (reached.later s none here), none_implied from s r implies (none_lower from (level.var + 1) s (up_one from level.var le) none)))
   where
     up_one : (m n : ℕ) → m ≤ n → m ≤ n + 1
     up_one m n le = omega arith
@@ -132,7 +136,7 @@ pub reaches_more : (rows : List Row) (steps : List ComboStep) (level : Level) (l
 reaches_more rows steps level levels p p' reaches reached from live (variable, (next, is, rest)) =
     let (on, met) = reaches (level.var + 1) next rest in (
       on_way_from rows from level.var p' variable reached.on_way,
-      All-weaker (IsInPart level.above level.below next) (HasRow rows steps (λ r. IsMetAt p' r × HasNoneBelow from r)) (λ i h. part_met rows steps from live level next p p' i variable.from is met reached h) live is.parts,
+      All-weaker (IsKept rows steps level.above level.below next) (HasRow rows steps (λ r. IsMetAt p' r × HasNoneBelow from r)) (λ i h. part_met rows steps from live level next p p' i variable.from is met reached h) live is.parts,
     )
 
 -- the levels from one on are levels
@@ -173,5 +177,10 @@ reaches_end rows steps levels values e =
 -- the whole way
 pub solution : (rows : List Row) (steps : List ComboStep) (levels : List Level) (p : Point) → AreLevelsOf rows steps levels → Reaches rows steps levels p → IsSolution rows p
 solution rows steps levels p (first, all, are) reaches =
-    let (on, met) = reaches 0 first are in
-    (on.positive, λ k d lt. (one_row rows steps (λ r. IsMetAt p r × HasNoneBelow 0 r) k (get_or rows k d) (at_given rows steps k (get_or rows k d) (slice_get-get_or rows k d lt)) (All-contains (HasRow rows steps (λ r. IsMetAt p r × HasNoneBelow 0 r)) first k met (all k lt))).0)
+    let (on, met) = reaches 0 first are in (
+      on.positive,
+      λ k d lt.
+          let r = get_or rows k d in
+          let (n, there, (s, f, implies)) = one_row rows steps (FollowsFrom rows steps first) k r (at_given rows steps k r (slice_get-get_or rows k d lt)) (all k lt) in
+          met_implied p s r on.positive implies (one_row rows steps (λ r. IsMetAt p r × HasNoneBelow 0 r) n s f (All-contains (HasRow rows steps (λ r. IsMetAt p r × HasNoneBelow 0 r)) first n met there)).0,
+    )

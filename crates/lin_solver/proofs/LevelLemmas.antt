@@ -1,19 +1,19 @@
 -- Laws of levels.
-use Rattle.std.specs.Prelude.{◌≡◌, ℕ, ◌+◌, ◌≤◌, ◌<◌, pos, List, [], ◌∷◌, ◌++◌, All}
-use Rattle.std.proofs.Common.{sym, ap, ◌∙◌, subst, arith, append_assoc, append-nil, ⊎_elim, ◌-◌}
+use Rattle.std.specs.Prelude.{◌≡◌, ℕ, ◌+◌, ◌≤◌, ◌<◌, pos, List, [], ◌∷◌, ◌++◌, length, All}
+use Rattle.std.proofs.Common.{sym, ap, ◌∙◌, subst, arith, append_assoc, append-nil, ⊎_elim, ◌-◌, inl, inr}
 use Rattle.std.proofs.lemmas.Bool.{cases_lt}
-use Rattle.std.proofs.lemmas.List.Elements.{All-weaker}
+use Rattle.std.proofs.lemmas.List.Elements.{All-weaker, All-contains}
 use Rattle.lin_rows.specs.declared.row.Row.{Row}
 use Rattle.lin_rows.specs.declared.step.ComboStep.{ComboStep}
 use Rattle.lin_rows.specs.Terms.{coef_at}
 use Rattle.lin_rows.specs.Derived.{Derived}
 use Rattle.lin_rows.specs.DerivedLaws.{derived-below, derived-absent, derived-later}
-use Rattle.lin_solver.specs.Numbers.{HaveRows, IsLive, BoundsAbove, BoundsBelow, IsPrefix}
+use Rattle.lin_solver.specs.Numbers.{HasRow, HaveRows, FollowsFrom, IsLive, BoundsAbove, BoundsBelow, IsPrefix}
 use Rattle.lin_solver.specs.Variables.{HasNoneFrom, HasNoneBetween, IsNextVariable}
-use Rattle.lin_solver.specs.Levels.{IsLevel, AreLevels}
+use Rattle.lin_solver.specs.Levels.{IsInPart, IsKept, IsLevel, AreLevels}
 use Rattle.lin_solver.specs.declared.levels.Level.{Level}
-use Rattle.lin_solver.proofs.NumberLemmas.{have_grows, have_weaker, prefix_same, prefix_trans}
-use Rattle.lin_solver.proofs.StepLemmas.{are_covered_grow}
+use Rattle.lin_solver.proofs.NumberLemmas.{at_grows, have_grows, have_weaker, prefix_same, prefix_trans}
+use Rattle.lin_solver.proofs.StepLemmas.{are_covered_grow, follows_grows}
 
 -- a row that is derived before a number is derived before the next variable from there on
 pub derived_next : (rows : List Row) (from v : ℕ) (r : Row) → IsNextVariable rows from v → Derived rows from r → Derived rows v r
@@ -35,12 +35,32 @@ pub live_next : (rows : List Row) (steps : List ComboStep) (from v : ℕ) (is : 
 live_next rows steps from v is next h =
     have_weaker rows steps (IsLive rows from) (IsLive rows v) is (λ r l. (derived_next rows from v r next l.0, l.1)) h
 
+-- what is kept stays so over more steps
+kept_grows : (rows : List Row) (old new : List ComboStep) (above below next : List ℕ) (i : ℕ) → IsPrefix old new → IsKept rows old above below next i → IsKept rows new above below next i
+kept_grows rows old new above below next i p (inl h) = inl h
+kept_grows rows old new above below next i p (inr (inl h)) = inr (inl h)
+kept_grows rows old new above below next i p (inr (inr (r, e, f))) =
+    inr (inr (r, at_grows rows old new i r p e, follows_grows rows old new next next r p (prefix_same next) f))
+
+-- a number in a part of the live rows is kept where the numbers of the third part follow from others
+pub part_kept : (rows : List Row) (steps : List ComboStep) (above below next others : List ℕ) (i : ℕ) → HaveRows rows steps (FollowsFrom rows steps others) next → IsInPart above below next i → IsKept rows steps above below others i
+part_kept rows steps above below next others i all (inl h) = inl h
+part_kept rows steps above below next others i all (inr (inl h)) = inr (inl h)
+part_kept rows steps above below next others i all (inr (inr h)) =
+    inr (inr (All-contains (HasRow rows steps (FollowsFrom rows steps others)) next i all h))
+
+-- the rows that all follow at first follow over more steps
+pub first_grows : (rows : List Row) (old new : List ComboStep) (first : List ℕ) → IsPrefix old new → ((i : ℕ) → i < length rows → HasRow rows old (FollowsFrom rows old first) i) → (i : ℕ) → i < length rows → HasRow rows new (FollowsFrom rows new first) i
+first_grows rows old new first p all i lt =
+    let (r, e, f) = all i lt in
+    (r, at_grows rows old new i r p e, follows_grows rows old new first first r p (prefix_same first) f)
+
 -- a level stays one over more steps
 pub level_grows : (rows : List Row) (old new : List ComboStep) (live : List ℕ) (level : Level) (next : List ℕ) → IsPrefix old new → IsLevel rows old live level next → IsLevel rows new live level next
 level_grows rows old new live level next p is = record {
   above = have_grows rows old new (BoundsAbove rows level.var) level.above p is.above;
   below = have_grows rows old new (BoundsBelow rows level.var) level.below p is.below;
-  parts = is.parts;
+  parts = All-weaker (IsKept rows old level.above level.below next) (IsKept rows new level.above level.below next) (λ i h. kept_grows rows old new level.above level.below next i p h) live is.parts;
   sums = are_covered_grow rows old new level.var level.above level.below next next p (prefix_same next) is.sums;
 }
 

@@ -1,5 +1,6 @@
 mod NumberLemmas
 mod StepLemmas
+mod StrongestLemmas
 mod VariableLemmas
 mod PartLemmas
 mod LevelLemmas

@@ -125,7 +125,7 @@ pub above_meets_other : (rows : List Row) (steps : List ComboStep) (p : Point) (
 above_meets_other rows steps p v above below w p' on sums have_above have_below is at = λ k d lt.
     let (a, there, up, coef, left) = worst_row {P = BoundsAbove rows v} rows steps p v above w have_above is in
     let (b, here, down) = have_below k d lt in
-    let (i, j, some_i, some_j, none, together) = rooms_together rows steps p v w.number (get_or below k d) a b above below sums is.among (Contains-get_or below k d lt) there here up down in
+    let (i, j, some_i, some_j, none, together) = rooms_together rows steps p v w.number (get_or below k d) a b above below on.positive sums is.among (Contains-get_or below k d lt) there here up down in
     let none' : i *ℤ w.coef +ℤ j *ℤ coef_at b.coefs v ≡ pos 0 = ap (λ z. i *ℤ z +ℤ j *ℤ coef_at b.coefs v) coef ∙ none in
     let together' : pos 0 ≤ℤ (i *ℤ w.room +ℤ j *ℤ room p b v) = subst (λ z. pos 0 ≤ℤ (i *ℤ z +ℤ j *ℤ room p b v)) (sym left) together in
     (b, here, subst (λ q. IsMetAt q b) (sym at.point) (met_here rows p at.s at.z v b on down.0 (meets_other w.coef (coef_at b.coefs v) w.room (room p b v) at.z at.s i j some_j (not_negative at.s at.positive) none' at.bound together')))
@@ -134,7 +134,7 @@ pub below_meets_other : (rows : List Row) (steps : List ComboStep) (p : Point) (
 below_meets_other rows steps p v above below w p' on sums have_above have_below is at = λ k d lt.
     let (b, there, down, coef, left) = worst_row {P = BoundsBelow rows v} rows steps p v below w have_below is in
     let (a, here, up) = have_above k d lt in
-    let (i, j, some_i, some_j, none, together) = rooms_together rows steps p v (get_or above k d) w.number a b above below sums (Contains-get_or above k d lt) is.among here there up down in
+    let (i, j, some_i, some_j, none, together) = rooms_together rows steps p v (get_or above k d) w.number a b above below on.positive sums (Contains-get_or above k d lt) is.among here there up down in
     let none' : j *ℤ w.coef +ℤ i *ℤ coef_at a.coefs v ≡ pos 0 = turn (j *ℤ w.coef) (i *ℤ coef_at a.coefs v) ∙ ap (λ z. i *ℤ coef_at a.coefs v +ℤ j *ℤ z) coef ∙ none in
     let together' : pos 0 ≤ℤ (j *ℤ w.room +ℤ i *ℤ room p a v) = subst (λ z. pos 0 ≤ℤ z) (turn (i *ℤ room p a v) (j *ℤ w.room)) (subst (λ z. pos 0 ≤ℤ (i *ℤ room p a v +ℤ j *ℤ z)) (sym left) together) in
     (a, here, subst (λ q. IsMetAt q a) (sym at.point) (met_here rows p at.s at.z v a on up.0 (meets_other w.coef (coef_at a.coefs v) w.room (room p a v) at.z at.s j i some_i (not_negative at.s at.positive) none' at.bound together')))

@@ -1,7 +1,7 @@
 -- Laws of a step that is added.
-use Rattle.std.specs.Prelude.{◌≡◌, ℕ, ◌+◌, ◌<◌, ℤ, pos, ◌*ℤ◌, ◌+ℤ◌, Option, FitsSigned, List, [], ◌∷◌, ◌++◌, Some, map, slice_get, length, Contains, All, refl}
+use Rattle.std.specs.Prelude.{◌≡◌, ℕ, ◌+◌, ◌<◌, ℤ, pos, ◌≤ℤ◌, ◌*ℤ◌, ◌+ℤ◌, Option, FitsSigned, List, [], ◌∷◌, ◌++◌, Some, map, slice_get, length, Contains, All, refl}
 use Rattle.std.proofs.Common.{sym, ap, ◌∙◌, subst, arith}
-use Rattle.std.proofs.lemmas.List.Elements.{All-weaker, Contains-push, Contains-append_left}
+use Rattle.std.proofs.lemmas.List.Elements.{All-weaker, All-contains, Contains-push, Contains-append_left}
 use Rattle.std.proofs.lemmas.Option.{get_or_from_slice_get}
 use Rattle.std.specs.Int.{w128}
 use Rattle.std.proofs.lemmas.Int.{ints}
@@ -13,7 +13,7 @@ use Rattle.lin_rows.specs.Derived.{Derived, given, summed}
 use Rattle.lin_rows.specs.Steps.{StepHolds, StepsHold}
 use Rattle.lin_rows.specs.StepLaws.{steps-push}
 use Rattle.lin_rows.specs.TermLaws.{at_or_not}
-use Rattle.lin_solver.specs.Numbers.{numbered, HasRow, MayBeMet, IsLive, BoundsAbove, BoundsBelow, IsSumOf, IsCovered, AreCovered, IsPrefix}
+use Rattle.lin_solver.specs.Numbers.{numbered, HasRow, HaveRows, Implies, FollowsFrom, MayBeMet, IsLive, BoundsAbove, BoundsBelow, IsSumOf, IsCovered, AreCovered, IsPrefix}
 use Rattle.lin_solver.proofs.NumberLemmas.{get_within, get_back, one_row, at_given, at_step, at_grows}
 
 -- the steps hold with one more
@@ -50,10 +50,43 @@ pub step_sum : (rows : List Row) (old new : List ComboStep) (s : ComboStep) (v i
 step_sum rows old new s v i j n is at sum =
     (s.row, at_last rows old new s n is at, sum_grows rows old new v i j s.row (s ∷ [], is) sum)
 
+-- a row implies itself, and what a row implies that it implies
+pub implies_itself : (r : Row) → Implies r r
+implies_itself r = (refl, least r.bound)
+  where
+    least : (z : ℤ) → z ≤ℤ z
+    least z = omega (arith, ints)
+
+pub implies_more : (a b c : Row) → Implies a b → Implies b c → Implies a c
+implies_more a b c p q = (p.0 ∙ q.0, trans a.bound b.bound c.bound p.1 q.1)
+  where
+    trans : (x y z : ℤ) → x ≤ℤ y → y ≤ℤ z → x ≤ℤ z
+    trans x y z h k = omega (arith, ints)
+
+-- what follows from numbers follows over more steps, from more numbers, and from those that they follow from
+pub follows_grows : (rows : List Row) (old new : List ComboStep) (numbers more : List ℕ) (r : Row) → IsPrefix old new → IsPrefix numbers more → FollowsFrom rows old numbers r → FollowsFrom rows new more r
+follows_grows rows old new numbers more r p q (n, there, (s, e, i)) =
+    (n, subst (λ z. Contains z n) (sym q.1) (Contains-append_left numbers q.0 n there), (s, at_grows rows old new n s p e, i))
+
+pub follows_on : (rows : List Row) (steps : List ComboStep) (numbers others : List ℕ) (r : Row) → HaveRows rows steps (FollowsFrom rows steps others) numbers → FollowsFrom rows steps numbers r → FollowsFrom rows steps others r
+follows_on rows steps numbers others r all (n, there, (s, e, i)) =
+    let (m, among, (t, f, j)) = one_row rows steps (FollowsFrom rows steps others) n s e (All-contains (HasRow rows steps (FollowsFrom rows steps others)) numbers n all there) in
+    (m, among, (t, f, implies_more t s r j i))
+
 -- what is covered stays so
 pub covered_grows : (rows : List Row) (old new : List ComboStep) (v i j : ℕ) (next more : List ℕ) → IsPrefix old new → IsPrefix next more → IsCovered rows old v next i j → IsCovered rows new v more i j
-covered_grows rows old new v i j next more p q (n, there, (r, e, sum)) =
-    (n, subst (λ z. Contains z n) (sym q.1) (Contains-append_left next q.0 n there), (r, at_grows rows old new n r p e, sum_grows rows old new v i j r p sum))
+covered_grows rows old new v i j next more p q (r, sum, follows) =
+    (r, sum_grows rows old new v i j r p sum, follows_grows rows old new next more r p q follows)
+
+covered_on : (rows : List Row) (steps : List ComboStep) (v i j : ℕ) (next others : List ℕ) → HaveRows rows steps (FollowsFrom rows steps others) next → IsCovered rows steps v next i j → IsCovered rows steps v others i j
+covered_on rows steps v i j next others all (r, sum, follows) =
+    (r, sum, follows_on rows steps next others r all follows)
+
+pub are_covered_on : (rows : List Row) (steps : List ComboStep) (v : ℕ) (is js : List ℕ) (next others : List ℕ) → HaveRows rows steps (FollowsFrom rows steps others) next → AreCovered rows steps v next is js → AreCovered rows steps v others is js
+are_covered_on rows steps v is js next others all h =
+    All-weaker (λ i. All (IsCovered rows steps v next i) js) (λ i. All (IsCovered rows steps v others i) js)
+    (λ i c. All-weaker (IsCovered rows steps v next i) (IsCovered rows steps v others i) (λ j d. covered_on rows steps v i j next others all d) js c)
+    is h
 
 pub all_covered_grow : (rows : List Row) (old new : List ComboStep) (v i : ℕ) (js : List ℕ) (next more : List ℕ) → IsPrefix old new → IsPrefix next more → All (IsCovered rows old v next i) js → All (IsCovered rows new v more i) js
 all_covered_grow rows old new v i js next more p q h =
@@ -65,8 +98,8 @@ are_covered_grow rows old new v is js next more p q h =
 
 -- the number that was added last covers
 pub covered_last : (rows : List Row) (steps : List ComboStep) (v i j n : ℕ) (next more : List ℕ) → more ≡ next ++ n ∷ [] → HasRow rows steps (IsSumOf rows steps v i j) n → IsCovered rows steps v more i j
-covered_last rows steps v i j n next more is sum =
-    (n, subst (λ z. Contains z n) (sym is) (Contains-push next n), sum)
+covered_last rows steps v i j n next more is (r, e, sum) =
+    (r, sum, (n, subst (λ z. Contains z n) (sym is) (Contains-push next n), (r, e, implies_itself r)))
 
 -- once a row and no times itself is the row
 once : (z : ℤ) → z ≡ pos 1 *ℤ z +ℤ pos 0 *ℤ z

@@ -16,7 +16,7 @@ use Rattle.lin_rows.specs.Ring.{*ℤ_assoc}
 use Rattle.lin_rows.specs.UnitLaws.{has_least_unit}
 use Rattle.lin_rows.specs.Points.{valuation}
 use Rattle.lin_rows.specs.WidePoints.{IsTight, IsBound, IsPointFrom, Extends}
-use Rattle.lin_solver.specs.Numbers.{numbered, HasRow, BoundsAbove, BoundsBelow, IsCovered}
+use Rattle.lin_solver.specs.Numbers.{numbered, HasRow, Implies, BoundsAbove, BoundsBelow, IsCovered}
 use Rattle.lin_solver.specs.WayBack.{IsMetAt, IsOnWay, room, scaled, extension, HasNoneBelow, AreSumsMet}
 use Rattle.lin_solver.proofs.NumberLemmas.{one_row}
 use Rattle.lin_solver.proofs.RoomLemmas.{room_in, value_of_later, met_from_room, tight_from_room, some_room, room_scaled, room_sum}
@@ -96,15 +96,23 @@ extends_point rows p s z v r on tight = record {
   bound = tight;
 }
 
+-- a point meets what a row that it meets implies
+pub met_implied : (p : Point) (s r : Row) → pos 1 ≤ℤ p.q → Implies s r → IsMetAt p s → IsMetAt p r
+met_implied p s r some (same, le) met =
+    subst (λ c. value_at (valuation p.values) c ≤ℤ (r.bound *ℤ p.q)) same (trans _ _ _ met (≤ℤ-*ℤ s.bound r.bound p.q (omega (arith, ints)) le))
+  where
+    trans : (x y z : ℤ) → x ≤ℤ y → y ≤ℤ z → x ≤ℤ z
+    trans x y z h k = omega (arith, ints)
+
 -- the rows of two numbers that bound `v` from both sides leave room together
-pub rooms_together : (rows : List Row) (steps : List ComboStep) (p : Point) (v i j : ℕ) (a b : Row) (above below : List ℕ) → AreSumsMet rows steps p v above below → Contains above i → Contains below j → slice_get (numbered rows steps) i ≡ Some (Some a) → slice_get (numbered rows steps) j ≡ Some (Some b) → BoundsAbove rows v a → BoundsBelow rows v b →
+pub rooms_together : (rows : List Row) (steps : List ComboStep) (p : Point) (v i j : ℕ) (a b : Row) (above below : List ℕ) → pos 1 ≤ℤ p.q → AreSumsMet rows steps p v above below → Contains above i → Contains below j → slice_get (numbered rows steps) i ≡ Some (Some a) → slice_get (numbered rows steps) j ≡ Some (Some b) → BoundsAbove rows v a → BoundsBelow rows v b →
     (k : ℤ) × (l : ℤ) × (pos 0 <ℤ k) × (pos 0 <ℤ l) × (k *ℤ coef_at a.coefs v +ℤ l *ℤ coef_at b.coefs v ≡ pos 0) × (pos 0 ≤ℤ (k *ℤ room p a v +ℤ l *ℤ room p b v))
-rooms_together rows steps p v i j a b above below (next, covered, met) at_above at_below e f d g =
-    let (n, there, (r, at, sum)) = All-contains (IsCovered rows steps v next i) below j (All-contains (λ i. All (IsCovered rows steps v next i) below) above i covered at_above) at_below in
+rooms_together rows steps p v i j a b above below some (next, covered, met) at_above at_below e f d g =
+    let (r, sum, (n, there, (s, at, implies))) = All-contains (IsCovered rows steps v next i) below j (All-contains (λ i. All (IsCovered rows steps v next i) below) above i covered at_above) at_below in
     let (a', e', (b', f', is)) = sum in
     let same_a : a' ≡ a = cc in
     let same_b : b' ≡ b = cc in
     let (k, l, low, total) = subst (λ c. IsElimination v a c r) same_b (subst (λ c. IsElimination v c b' r) same_a is) in
-    let here = one_row rows steps (IsMetAt p) n r at (All-contains (HasRow rows steps (IsMetAt p)) next n met there) in
+    let here = met_implied p s r some implies (one_row rows steps (IsMetAt p) n s at (All-contains (HasRow rows steps (IsMetAt p)) next n met there)) in
     let none : HasNoneBelow (v + 1) r = derived-below rows (v + 1) r (summed v a b r d.0 g.0 d.1 g.1 (k, l, low, total)) in
     (k, l, low.cancels.left, low.cancels.right, low.cancels.none, subst (λ z. pos 0 ≤ℤ z) {y = k *ℤ room p a v +ℤ l *ℤ room p b v} (room_sum p.q (valuation p.values) v k l a b r total) (some_room p.q (valuation p.values) v r none here))

@@ -9,6 +9,7 @@ ghost use Rattle.lin_solver.specs.Stops.{IsStop};
 use crate::given::given;
 use crate::parts::{Parts, part};
 use crate::stop::Stop;
+use crate::strongest::strongest;
 use crate::sums::add_sums;
 use crate::variables::next_variable;
 use lin_rows::{ComboStep, Row};
@@ -61,6 +62,7 @@ fn eliminate_one(
         var,
         &mut next,
     )?;
+    let next = strongest(alloc, rows, steps.as_slice(), next.as_slice())?;
     Ok(Step {
         level: Level { var, above, below },
         next,
@@ -78,7 +80,8 @@ pub fn levels_of(
     ensures levels { IfOk result (AreLevelsOf rows.now steps.new) }
     ensures stops { IfErr result (IsStop rows.now steps.new) }
 {
-    let mut live = given(alloc, rows, steps)?;
+    let given = given(alloc, rows, steps)?;
+    let mut live = strongest(alloc, rows, steps.as_slice(), given.as_slice())?;
     let mut levels = Items::new(alloc);
     let mut from = 0;
     while let Some(var) = next_variable(rows, from) {

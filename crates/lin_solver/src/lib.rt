@@ -12,6 +12,7 @@ mod parts;
 mod room;
 mod solving;
 mod stop;
+mod strongest;
 mod sums;
 mod variables;
 mod way_back;

@@ -255,3 +255,22 @@ fn a_chain_of_a_hundred_differences_is_met_or_closed(rt: HostRuntime) -> Result<
     }
     Ok(())
 }
+
+// Each sum of two of these rows is implied by a row that is there. If such sums were kept, their number
+// would be squared with each variable.
+#[test]
+fn all_differences_of_ten_variables_are_met(rt: HostRuntime) -> Result<(), Fail> {
+    let alloc = rt.alloc();
+    let mut rows = Items::new(alloc);
+    for left in 0..10_u32 {
+        for right in 0..10_u32 {
+            if left != right {
+                let terms = [(left, 1), (right, -1)];
+                rows.push(row(alloc, terms.as_slice(), 1).map_err(|_| "no row")?)?;
+            }
+        }
+    }
+    let solved = solve(alloc, rows.as_slice()).map_err(|_| "no memory")?;
+    assert_eq!(rt; kind_of(&solved), Answer::Point(1, [0, 0, 0]));
+    Ok(())
+}
