@@ -2,9 +2,11 @@
 #![tactic(auto)]
 
 mod fault;
+mod piece;
 mod spot;
 mod token;
 
 pub use fault::LexFault;
+pub use piece::{Piece, Shape};
 pub use spot::Spot;
 pub use token::{Keyword, Mark, Token, TokenForm};
