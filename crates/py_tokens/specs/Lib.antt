@@ -5,3 +5,6 @@ pub mod StringForms
 pub mod TextPieces
 pub mod LineLayout
 pub mod TextTokens
+pub mod WordLaws
+pub mod StringLaws
+pub mod PieceLaws
