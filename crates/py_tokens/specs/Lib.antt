@@ -8,3 +8,5 @@ pub mod TextTokens
 pub mod WordLaws
 pub mod StringLaws
 pub mod PieceLaws
+pub mod PlaceLaws
+pub mod CutLaws

@@ -1,6 +1,6 @@
 -- A text is cut into pieces in one way only.
 use Rattle.std.specs.Prelude.{pos, encode_utf8_all, All, IsTrue}
-use Rattle.std.proofs.Common.{ℕ, suc, ◌≡◌, ◌+◌, ◌<◌, ◌≤◌, ◌^◌, ◌⊎◌, inl, inr, arith, refl, sym, ap, ◌∙◌, subst, List, [], ◌∷◌, ◌++◌, append-nil, append_assoc, lit<}
+use Rattle.std.proofs.Common.{Bool, true, false, ℕ, suc, ◌≡◌, ◌+◌, ◌<◌, ◌≤◌, ◌^◌, ◌⊎◌, inl, inr, arith, refl, sym, ap, ◌∙◌, subst, List, [], ◌∷◌, ◌++◌, append-nil, append_assoc, lit<}
 use Rattle.std.proofs.lemmas.List.{append_cancel_left, append_cancel_right}
 use Rattle.py_base.specs.declared.Place.{Place}
 use Rattle.py_tokens.specs.declared.piece.Piece.{Piece}
@@ -10,12 +10,13 @@ use Rattle.py_tokens.specs.declared.token.TokenForm.TheVariants as forms
 use Rattle.py_tokens.specs.declared.token.Keyword.{Keyword}
 use Rattle.py_tokens.specs.declared.token.Mark.{Mark}
 use Rattle.py_tokens.specs.PlacedText.{after}
-use Rattle.py_tokens.specs.WordForms.{keyword_text, number_value}
+use Rattle.py_tokens.specs.WordForms.{is_word, is_number, keyword_text, number_value}
 use Rattle.py_tokens.specs.MarkForms.{mark_text}
-use Rattle.py_tokens.specs.StringForms.{Quotes, Part, LoneBackslash, BeginsWith, OpensWith, opens_triple, opens_single, SpellsString, IsOpenString, StandsFor, characters_of, quote_text}
+use Rattle.py_tokens.specs.PlaceLaws.{Precedes, precedes_after, after-append}
+use Rattle.py_tokens.specs.StringForms.{GoesOn, part_text, Quotes, Single, Triple, Part, LoneBackslash, BeginsWith, OpensWith, opens_triple, opens_single, SpellsString, IsOpenString, StandsFor, characters_of, quote_text}
 use Rattle.py_tokens.specs.TextPieces.{Longest, IsWord, IsKeyword, IsNumber, IsMark, IsComment, BeginsNone, IsPiece, a_name, a_keyword, a_number, a_large_number, a_mark, a_string, a_space, a_tab, a_comment, a_line_end, a_bad_escape, an_open_string, a_stray, CutInto}
 use Rattle.py_tokens.specs.WordLaws as word
-use Rattle.py_tokens.specs.WordLaws.{Beginning, beginning, beginning_of, plain_begins, word_begins, number_begins, mark_begins, comment_begins, same_longest, same_keyword, same_mark}
+use Rattle.py_tokens.specs.WordLaws.{Beginning, beginning, beginning_of, plain_begins, word_begins, number_begins, mark_begins, mark_filled, comment_begins, same_longest, same_keyword, same_mark}
 use Rattle.py_tokens.specs.StringLaws.{same_quotes, same_string, same_value, same_good, no_value}
 
 -- the shape of a word
@@ -217,3 +218,75 @@ same_sorted p f r g t s u e (inl h) (inl i) =
 -- At the beginning of a text stands one piece.
 pub same_piece : (p : Place) (front rest front' rest' : List ℕ) (shape shape' : Shape) → front ++ rest ≡ front' ++ rest' → IsPiece p front rest shape → IsPiece p front' rest' shape' → (front ≡ front') × (rest ≡ rest') × (shape ≡ shape')
 same_piece p f r g t s u e h i = same_sorted p f r g t s u e (sorted p f r s h) (sorted p g t u i)
+
+goes_over : (quotes : Quotes) (parts : List Part) (cs rest : List ℕ) → GoesOn quotes cs parts rest → cs ≡ characters_of parts ++ rest
+goes_over quotes [] cs rest h = h
+goes_over quotes (part ∷ parts) cs rest h =
+    let (more, e, n, is, on) = h in
+    e ∙ ap (λ (t : List ℕ). part_text part ++ t) (goes_over quotes parts more rest on) ∙ sym (append_assoc (part_text part) (characters_of parts) rest)
+
+string_front : (front rest : List ℕ) (quotes : Quotes) (parts : List Part) → SpellsString (front ++ rest) quotes parts rest → front ≡ quote_text quotes ++ (characters_of parts ++ quote_text quotes)
+string_front front rest quotes parts h =
+    let (inner, opens, e, on) = h in
+    let q : List ℕ = quote_text quotes in
+    let ps : List ℕ = characters_of parts in
+    let whole : front ++ rest ≡ q ++ (ps ++ (q ++ rest)) = e ∙ ap (λ (t : List ℕ). q ++ t) (goes_over quotes parts inner (q ++ rest) on) in
+    let moved : q ++ (ps ++ (q ++ rest)) ≡ (q ++ (ps ++ q)) ++ rest = ap (λ (t : List ℕ). q ++ t) (sym (append_assoc ps q rest)) ∙ sym (append_assoc q (ps ++ q) rest) in
+    append_cancel_right front (q ++ (ps ++ q)) rest (whole ∙ moved)
+
+abbrev Filled : List ℕ → Type 0
+Filled front = (c : ℕ) × (cs : List ℕ) × (front ≡ c ∷ cs)
+
+unless_empty : (front : List ℕ) → (front ≡ [] → ⊥) → Filled front
+unless_empty [] h = absurd (h refl)
+unless_empty (c ∷ cs) h = (c, cs, refl)
+
+quote_filled : (quotes : Quotes) (more : List ℕ) → Filled (quote_text quotes ++ more)
+quote_filled (Single q) more = (q, more, refl)
+quote_filled (Triple q) more = (q, q ∷ q ∷ more, refl)
+
+opens_filled : (cs : List ℕ) (quotes : Quotes) → OpensWith cs quotes → Filled cs
+opens_filled cs quotes (opens_triple q i b) = let (rest, e) = b in (q, q ∷ q ∷ rest, e)
+opens_filled cs quotes (opens_single q i b n) = let (rest, e) = b in (q, rest, e)
+
+no_test : (test : List ℕ → Bool) (front : List ℕ) → test [] ≡ false → test front ≡ true → front ≡ [] → ⊥
+no_test test front e h none = let k : test [] ≡ true = subst (λ (f : List ℕ). test f ≡ true) none h in cc
+
+begun_filled : (k : Beginning) (p : Place) (front rest : List ℕ) (shape : Shape) → Begun k p front rest shape → Filled front
+begun_filled word.Word p front rest shape h = unless_empty front (no_test is_word front refl h.0.0)
+begun_filled word.Number p front rest shape h = unless_empty front (no_test is_number front refl h.0.0)
+begun_filled word.Comment p front rest shape h = let (text, e, t) = h.0.0 in (35, text, e)
+begun_filled word.Quoted p front rest shape (inl h) =
+    let (quotes, parts, spells, shaped) = h in
+    subst Filled (sym (string_front front rest quotes parts spells)) (quote_filled quotes (characters_of parts ++ quote_text quotes))
+begun_filled word.Quoted p front rest shape (inr h) = let (quotes, opens) = h.0.0 in opens_filled front quotes opens
+begun_filled word.Space p front rest shape h = (32, [], h.0)
+begun_filled word.Tab p front rest shape h = (9, [], h.0)
+begun_filled word.LineEnd p front rest shape h = (10, [], h.0)
+begun_filled word.Other p front rest shape h = let (m, e, f) = h.1 in unless_empty front (λ none. mark_filled m (sym e ∙ none))
+
+sorted_filled : (p : Place) (front rest : List ℕ) (shape : Shape) → Sorted p front rest shape → Filled front
+sorted_filled p front rest shape (inl h) = let (k, b, x) = h in begun_filled k p front rest shape x
+sorted_filled p front rest shape (inr h) = let (c, e, n, x) = h in (c, [], e)
+
+-- A piece has a character.
+pub not_empty : (p : Place) (front rest : List ℕ) (shape : Shape) → IsPiece p front rest shape → (c : ℕ) × (cs : List ℕ) × (front ≡ c ∷ cs)
+not_empty p front rest shape h = sorted_filled p front rest shape (sorted p front rest shape h)
+
+characters-append : (good more : List Part) → characters_of (good ++ more) ≡ characters_of good ++ characters_of more
+characters-append [] more = refl
+characters-append (part ∷ good) more = ap (λ (t : List ℕ). part_text part ++ t) (characters-append good more) ∙ sym (append_assoc (part_text part) (characters_of good) (characters_of more))
+
+later : (p : Place) (f : List ℕ) → Filled f → Precedes p (after p f)
+later p f h = let (c, cs, e) = h in subst (λ (g : List ℕ). Precedes p (after p g)) (sym e) (precedes_after cs p c)
+
+-- The place of a backslash that begins no escape lies within its string.
+pub escape_inside : (p : Place) (front rest : List ℕ) (q : Place) → IsPiece p front rest (shapes.BadEscape q) → Precedes p q × Precedes q (after p front)
+escape_inside p front rest q (a_bad_escape quotes parts more value s v) =
+    let u : List ℕ = quote_text quotes in
+    let good : List ℕ = characters_of parts in
+    let behind : List ℕ = characters_of more in
+    let part : characters_of (parts ++ LoneBackslash ∷ more) ++ u ≡ good ++ (92 ∷ behind ++ u) = ap (λ (t : List ℕ). t ++ u) (characters-append parts (LoneBackslash ∷ more)) ∙ append_assoc good (92 ∷ behind) u in
+    let whole : front ≡ (u ++ good) ++ (92 ∷ behind ++ u) = string_front front rest quotes (parts ++ LoneBackslash ∷ more) s ∙ ap (λ (t : List ℕ). u ++ t) part ∙ sym (append_assoc u good (92 ∷ behind ++ u)) in
+    let end : after p front ≡ after (after p (u ++ good)) (92 ∷ behind ++ u) = ap (after p) whole ∙ after-append (u ++ good) (92 ∷ behind ++ u) p in
+    (later p (u ++ good) (quote_filled quotes good), subst (Precedes (after p (u ++ good))) (sym end) (precedes_after (behind ++ u) (after p (u ++ good)) 92))

@@ -181,6 +181,12 @@ mark_found marks.PercentAssign = refl
 pub same_mark : (m n : Mark) → mark_text m ≡ mark_text n → m ≡ n
 same_mark m n e = sym (mark_found m) ∙ ap mark_of e ∙ mark_found n
 
+pub mark_filled : (m : Mark) → mark_text m ≡ [] → ⊥
+mark_filled m e =
+    let first : m ≡ marks.OpenParen = sym (mark_found m) ∙ ap mark_of e in
+    let bad : mark_text marks.OpenParen ≡ [] = sym (ap mark_text first) ∙ e in
+    cc
+
 pub mark_begins : (m : Mark) (rest : List ℕ) → beginning_of (mark_text m ++ rest) ≡ Other
 mark_begins marks.OpenParen rest = plain_begins 40 (lit< tt) refl refl refl
 mark_begins marks.CloseParen rest = plain_begins 41 (lit< tt) refl refl refl
