@@ -10,3 +10,4 @@ pub mod StringLaws
 pub mod PieceLaws
 pub mod PlaceLaws
 pub mod CutLaws
+pub mod LayoutLaws
