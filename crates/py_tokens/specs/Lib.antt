@@ -11,3 +11,4 @@ pub mod PieceLaws
 pub mod PlaceLaws
 pub mod CutLaws
 pub mod LayoutLaws
+pub mod TokenLaws
