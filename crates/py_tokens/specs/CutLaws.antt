@@ -2,7 +2,6 @@
 use Rattle.std.specs.Prelude.{All}
 use Rattle.std.proofs.Common.{ℕ, ◌≡◌, refl, sym, ap, ◌∙◌, subst, List, [], ◌∷◌, ◌++◌, append-nil, append_assoc}
 use Rattle.std.proofs.lemmas.List.Elements.{All-nil, All-cons}
-use Rattle.std.proofs.lemmas.List.{append_cancel_right}
 use Rattle.py_base.specs.declared.Place.{Place}
 use Rattle.py_tokens.specs.declared.piece.Piece.{Piece}
 use Rattle.py_tokens.specs.declared.piece.Shape.{Shape}

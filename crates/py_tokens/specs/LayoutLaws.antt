@@ -1,11 +1,10 @@
 -- Pieces are laid out in one way only.
-use Rattle.std.proofs.Common.{ℕ, ◌≡◌, ◌<◌, ◌==◌, ◌⊎◌, inl, inr, cond, arith, refl, sym, ap, ◌∙◌, subst, List, [], ◌∷◌, ◌++◌, append_assoc}
+use Rattle.std.proofs.Common.{ℕ, ◌≡◌, ◌<◌, ◌⊎◌, inl, inr, arith, refl, sym, ap, ◌∙◌, subst, List, [], ◌∷◌, ◌++◌, append_assoc}
 use Rattle.py_base.specs.declared.Place.{Place}
 use Rattle.py_tokens.specs.declared.piece.Piece.{Piece}
 use Rattle.py_tokens.specs.declared.piece.Shape.{Shape}
 use Rattle.py_tokens.specs.declared.piece.Shape.TheVariants as shapes
 use Rattle.py_tokens.specs.declared.token.Token.{Token}
-use Rattle.py_tokens.specs.declared.token.TokenForm.{TokenForm}
 use Rattle.py_tokens.specs.declared.token.TokenForm.TheVariants as forms
 use Rattle.py_tokens.specs.LineLayout.{Line, Fresh, Behind, Between, token_of, token_at, Closes, is_open, closes_one, Turns, deeper, not_deeper, width_at, behind, Lays, separates, begins_line, goes_on, ends_line, ends_blank_line, ends_within_brackets, LaidOut, last_newline, end_place, EndsWith}
 

@@ -1,9 +1,8 @@
 -- A text is cut into pieces in one way only.
-use Rattle.std.specs.Prelude.{pos, encode_utf8_all, All, IsTrue}
-use Rattle.std.proofs.Common.{Bool, true, false, ℕ, suc, ◌≡◌, ◌+◌, ◌<◌, ◌≤◌, ◌^◌, ◌⊎◌, inl, inr, arith, refl, sym, ap, ◌∙◌, subst, List, [], ◌∷◌, ◌++◌, append-nil, append_assoc, lit<}
+use Rattle.std.specs.Prelude.{pos, encode_utf8_all}
+use Rattle.std.proofs.Common.{Bool, true, false, ℕ, ◌≡◌, ◌<◌, ◌≤◌, ◌^◌, ◌⊎◌, inl, inr, arith, refl, sym, ap, ◌∙◌, subst, List, [], ◌∷◌, ◌++◌, append-nil, append_assoc, lit<}
 use Rattle.std.proofs.lemmas.List.{append_cancel_left, append_cancel_right}
 use Rattle.py_base.specs.declared.Place.{Place}
-use Rattle.py_tokens.specs.declared.piece.Piece.{Piece}
 use Rattle.py_tokens.specs.declared.piece.Shape.{Shape}
 use Rattle.py_tokens.specs.declared.piece.Shape.TheVariants as shapes
 use Rattle.py_tokens.specs.declared.token.TokenForm.TheVariants as forms
@@ -13,11 +12,11 @@ use Rattle.py_tokens.specs.PlacedText.{after}
 use Rattle.py_tokens.specs.WordForms.{is_word, is_number, keyword_text, number_value}
 use Rattle.py_tokens.specs.MarkForms.{mark_text}
 use Rattle.py_tokens.specs.PlaceLaws.{Precedes, precedes_after, after-append}
-use Rattle.py_tokens.specs.StringForms.{GoesOn, part_text, Quotes, Single, Triple, Part, LoneBackslash, BeginsWith, OpensWith, opens_triple, opens_single, SpellsString, IsOpenString, StandsFor, characters_of, quote_text}
-use Rattle.py_tokens.specs.TextPieces.{Longest, IsWord, IsKeyword, IsNumber, IsMark, IsComment, BeginsNone, IsPiece, a_name, a_keyword, a_number, a_large_number, a_mark, a_string, a_space, a_tab, a_comment, a_line_end, a_bad_escape, an_open_string, a_stray, CutInto}
+use Rattle.py_tokens.specs.StringForms.{GoesOn, part_text, Quotes, Single, Triple, Part, LoneBackslash, OpensWith, opens_triple, opens_single, SpellsString, IsOpenString, StandsFor, characters_of, quote_text}
+use Rattle.py_tokens.specs.TextPieces.{Longest, IsWord, IsKeyword, IsNumber, IsMark, IsComment, BeginsNone, IsPiece, a_name, a_keyword, a_number, a_large_number, a_mark, a_string, a_space, a_tab, a_comment, a_line_end, a_bad_escape, an_open_string, a_stray}
 use Rattle.py_tokens.specs.WordLaws as word
 use Rattle.py_tokens.specs.WordLaws.{Beginning, beginning, beginning_of, plain_begins, word_begins, number_begins, mark_begins, mark_filled, comment_begins, same_longest, same_keyword, same_mark}
-use Rattle.py_tokens.specs.StringLaws.{same_quotes, same_string, same_value, same_good, no_value}
+use Rattle.py_tokens.specs.StringLaws.{same_string, same_value, same_good, no_value}
 
 -- the shape of a word
 abbrev WordShape : List ℕ → Shape → Type 0

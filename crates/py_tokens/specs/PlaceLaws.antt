@@ -1,5 +1,5 @@
 -- The order of places, and the place behind some characters.
-use Rattle.std.proofs.Common.{ℕ, ◌≡◌, ◌+◌, ◌<◌, ◌==◌, ◌⊎◌, inl, inr, Bool, true, false, cond, arith, refl, ap, ◌∙◌, subst, List, [], ◌∷◌, ◌++◌}
+use Rattle.std.proofs.Common.{ℕ, ◌≡◌, ◌+◌, ◌<◌, ◌==◌, ◌⊎◌, inl, inr, Bool, true, false, cond, arith, refl, List, [], ◌∷◌, ◌++◌}
 use Rattle.py_base.specs.declared.Place.{Place}
 use Rattle.py_tokens.specs.PlacedText.{after, after_one}
 

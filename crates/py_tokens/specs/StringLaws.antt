@@ -1,7 +1,7 @@
 -- The characters of a text have one reading as a string.
-use Rattle.std.proofs.Common.{ℕ, ◌≡◌, ◌<◌, ◌==◌, ◌⊎◌, inl, inr, cond, arith, refl, sym, ap, ◌∙◌, subst, List, [], ◌∷◌, ◌++◌, append-nil, append_assoc}
-use Rattle.std.proofs.lemmas.List.{append_cancel_left, append_cancel_right}
-use Rattle.py_tokens.specs.StringForms.{Quotes, Single, Triple, quote_text, BeginsWith, IsQuote, OpensWith, opens_triple, opens_single, Part, Plain, Escape, LoneBackslash, IsEscape, backslash, apostrophe, quotation, line_feed, tabulator, part_text, IsPart, GoesOn, SpellsString, IsOpenString, StandsFor}
+use Rattle.std.proofs.Common.{ℕ, ◌≡◌, ◌==◌, cond, refl, sym, ap, ◌∙◌, subst, List, [], ◌∷◌, ◌++◌}
+use Rattle.std.proofs.lemmas.List.{append_cancel_left}
+use Rattle.py_tokens.specs.StringForms.{Quotes, Single, Triple, quote_text, BeginsWith, OpensWith, opens_triple, opens_single, Part, Plain, Escape, LoneBackslash, IsEscape, backslash, apostrophe, quotation, line_feed, tabulator, part_text, IsPart, GoesOn, SpellsString, StandsFor}
 
 same_head : (c d : ℕ) (cs ds : List ℕ) → c ∷ cs ≡ d ∷ ds → c ≡ d
 same_head c d cs ds e = cc

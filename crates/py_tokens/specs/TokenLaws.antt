@@ -1,6 +1,6 @@
 -- A text has one token list or one first fault.
 use Rattle.std.specs.Str.{IsUtf8, IsValidUpTo}
-use Rattle.std.proofs.Common.{ℕ, ◌≡◌, ◌<◌, ◌≤◌, ◌⊎◌, inl, inr, arith, refl, sym, ap, ◌∙◌, subst, List, [], ◌∷◌, ◌++◌, length, take, take_all, le_refl, cond, ◌==◌}
+use Rattle.std.proofs.Common.{ℕ, ◌≡◌, ◌<◌, arith, refl, sym, ap, ◌∙◌, subst, List, ◌∷◌, ◌++◌, length, take, take_all, le_refl, cond, ◌==◌}
 use Rattle.std.proofs.Math.Decide.{dec_lt}
 use Rattle.py_base.specs.declared.Place.{Place}
 use Rattle.py_tokens.specs.declared.piece.Piece.{Piece}
@@ -9,7 +9,7 @@ use Rattle.py_tokens.specs.declared.fault.LexFault.{LexFault}
 use Rattle.py_tokens.specs.declared.fault.LexFault.TheVariants as faults
 use Rattle.py_tokens.specs.PlacedText.{text_characters, text_start, after, IsBadByteAt}
 use Rattle.py_tokens.specs.LineLayout.{Between, before_all, LaidOut, EndsWith}
-use Rattle.py_tokens.specs.TextTokens.{PiecesOf, HasFault, place_of, rank_of, IsNotAfter, by_line, by_col, by_rank, IsFirstFault, Tokens}
+use Rattle.py_tokens.specs.TextTokens.{PiecesOf, HasFault, bad_utf8, begins_no_token, after_number, bad_escape, tab_in_indent, bad_dedent, open_string, literal_too_large, name_not_nfkc, name_too_long, place_of, rank_of, IsNotAfter, by_line, by_col, by_rank, IsFirstFault, Tokens}
 use Rattle.py_tokens.specs.CutLaws.{same_cut}
 use Rattle.py_tokens.specs.LayoutLaws.{same_laid, same_ends}
 
@@ -84,3 +84,25 @@ same_bad_byte bytes p q h i =
         by (yes l) d = absurd (u.longest m l v.front)
         by (no k) (yes l) = absurd (v.longest n l u.front)
         by (no k) (no l) = omega (arith, k, l)
+
+text_with : (bytes : List ℕ) (p : Place) (ps : List Piece) {A : Type 0} → IsBadByteAt bytes p → PiecesOf bytes ps → A
+text_with bytes p ps h pieces = absurd (no_text_with_bad_byte bytes p h pieces.0)
+
+alone_with : (bytes : List ℕ) (p : Place) (f : LexFault) → IsBadByteAt bytes p → HasFault bytes f → f ≡ faults.BadUtf8 p
+alone_with bytes p f h (bad_utf8 q i) = ap faults.BadUtf8 (same_bad_byte bytes q p i h)
+alone_with bytes p f h (begins_no_token before rest piece c s) = text_with bytes p (before ++ piece ∷ rest) h c
+alone_with bytes p f h (after_number before rest number piece c n s) = text_with bytes p (before ++ number ∷ piece ∷ rest) h c
+alone_with bytes p f h (bad_escape before rest piece q c s) = text_with bytes p (before ++ piece ∷ rest) h c
+alone_with bytes p f h (tab_in_indent before spaces blanks rest tab first b c l k n t a s) = text_with bytes p (before ++ spaces ++ tab ∷ blanks ++ first ∷ rest) h c
+alone_with bytes p f h (bad_dedent before rest first b c l s w) = text_with bytes p (before ++ first ∷ rest) h c
+alone_with bytes p f h (open_string before rest piece c s) = text_with bytes p (before ++ piece ∷ rest) h c
+alone_with bytes p f h (literal_too_large before rest piece c s) = text_with bytes p (before ++ piece ∷ rest) h c
+alone_with bytes p f h (name_not_nfkc before rest piece name c s n) = text_with bytes p (before ++ piece ∷ rest) h c
+alone_with bytes p f h (name_too_long before rest piece name c s n) = text_with bytes p (before ++ piece ∷ rest) h c
+
+bad_byte_of : (bytes : List ℕ) (p : Place) → HasFault bytes (faults.BadUtf8 p) → IsBadByteAt bytes p
+bad_byte_of bytes p (bad_utf8 q i) = i
+
+-- A byte that belongs to no whole character is the only fault.
+pub bad_byte_alone : (bytes : List ℕ) (p : Place) (f : LexFault) → HasFault bytes (faults.BadUtf8 p) → HasFault bytes f → f ≡ faults.BadUtf8 p
+bad_byte_alone bytes p f h i = alone_with bytes p f (bad_byte_of bytes p h) i

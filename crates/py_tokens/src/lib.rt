@@ -2,11 +2,17 @@
 #![tactic(auto)]
 
 mod fault;
+mod laws;
 mod piece;
 mod spot;
 mod token;
 
 pub use fault::LexFault;
+pub use laws::{
+    a_text_has_one_first_fault, a_text_has_one_piece_in_front, a_text_has_one_string_in_front,
+    a_text_has_one_token_list, a_text_is_cut_in_one_way, pieces_are_laid_out_in_one_way,
+    places_of_pieces_ascend,
+};
 pub use piece::{Piece, Shape};
 pub use spot::Spot;
 pub use token::{Keyword, Mark, Token, TokenForm};
