@@ -56,7 +56,8 @@ quote_begins : (q : ℕ) → ((q ≡ 39) ⊎ (q ≡ 34)) → beginning q ≡ wor
 quote_begins q (inl e) = subst (λ (c : ℕ). beginning c ≡ word.Quoted) (sym e) (plain_begins 39 (lit< tt) refl refl refl)
 quote_begins q (inr e) = subst (λ (c : ℕ). beginning c ≡ word.Quoted) (sym e) (plain_begins 34 (lit< tt) refl refl refl)
 
-opens_begins : (cs : List ℕ) (quotes : Quotes) → OpensWith cs quotes → beginning_of cs ≡ word.Quoted
+-- Quotes begin a string.
+pub opens_begins : (cs : List ℕ) (quotes : Quotes) → OpensWith cs quotes → beginning_of cs ≡ word.Quoted
 opens_begins cs quotes (opens_triple q i b) = let (rest, e) = b in ap beginning_of e ∙ quote_begins q i
 opens_begins cs quotes (opens_single q i b n) = let (rest, e) = b in ap beginning_of e ∙ quote_begins q i
 

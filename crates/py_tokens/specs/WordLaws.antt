@@ -90,20 +90,21 @@ pub number_begins : (front rest : List ℕ) → is_number front ≡ true → beg
 number_begins [] rest h = cc
 number_begins (c ∷ cs) rest h = digit_begins c (number_digit (c == 48) c cs refl h)
 
-abbrev same_text : List ℕ → List ℕ → Bool
+abbrev pub same_text : List ℕ → List ℕ → Bool
 same_text [] [] = true
 same_text (c ∷ cs) (d ∷ ds) = (c == d) && same_text cs ds
 same_text cs ds = false
 
 -- the first of these that has the text, or else the last resort
-abbrev first_with : {A : Type 0} → (A → List ℕ) → List ℕ → A → List A → A
+abbrev pub first_with : {A : Type 0} → (A → List ℕ) → List ℕ → A → List A → A
 first_with text cs a [] = a
 first_with text cs a (b ∷ bs) = cond (same_text cs (text b)) b (first_with text cs a bs)
 
-abbrev keyword_of : List ℕ → Keyword
+abbrev pub keyword_of : List ℕ → Keyword
 keyword_of cs = first_with keyword_text cs keys.False (keys.False ∷ keys.None ∷ keys.True ∷ keys.And ∷ keys.As ∷ keys.Assert ∷ keys.Async ∷ keys.Await ∷ keys.Break ∷ keys.Class ∷ keys.Continue ∷ keys.Def ∷ keys.Del ∷ keys.Elif ∷ keys.Else ∷ keys.Except ∷ keys.Finally ∷ keys.For ∷ keys.From ∷ keys.Global ∷ keys.If ∷ keys.Import ∷ keys.In ∷ keys.Is ∷ keys.Lambda ∷ keys.Nonlocal ∷ keys.Not ∷ keys.Or ∷ keys.Pass ∷ keys.Raise ∷ keys.Return ∷ keys.Try ∷ keys.While ∷ keys.With ∷ keys.Yield ∷ [])
 
-keyword_found : (k : Keyword) → keyword_of (keyword_text k) ≡ k
+-- A text finds its keyword.
+pub keyword_found : (k : Keyword) → keyword_of (keyword_text k) ≡ k
 keyword_found keys.False = refl
 keyword_found keys.None = refl
 keyword_found keys.True = refl
@@ -144,10 +145,11 @@ keyword_found keys.Yield = refl
 pub same_keyword : (k l : Keyword) → keyword_text k ≡ keyword_text l → k ≡ l
 same_keyword k l e = sym (keyword_found k) ∙ ap keyword_of e ∙ keyword_found l
 
-abbrev mark_of : List ℕ → Mark
+abbrev pub mark_of : List ℕ → Mark
 mark_of cs = first_with mark_text cs marks.OpenParen (marks.OpenParen ∷ marks.CloseParen ∷ marks.OpenBracket ∷ marks.CloseBracket ∷ marks.Colon ∷ marks.Comma ∷ marks.Dot ∷ marks.Assign ∷ marks.Arrow ∷ marks.At ∷ marks.Plus ∷ marks.Minus ∷ marks.Star ∷ marks.Slash ∷ marks.TwoSlashes ∷ marks.Percent ∷ marks.Less ∷ marks.LessEqual ∷ marks.Greater ∷ marks.GreaterEqual ∷ marks.Equal ∷ marks.NotEqual ∷ marks.PlusAssign ∷ marks.MinusAssign ∷ marks.StarAssign ∷ marks.TwoSlashesAssign ∷ marks.PercentAssign ∷ [])
 
-mark_found : (m : Mark) → mark_of (mark_text m) ≡ m
+-- A text finds its mark.
+pub mark_found : (m : Mark) → mark_of (mark_text m) ≡ m
 mark_found marks.OpenParen = refl
 mark_found marks.CloseParen = refl
 mark_found marks.OpenBracket = refl

@@ -1,12 +1,14 @@
 //! The tokens of a text: their types, and their definition in `specs/`.
 #![tactic(auto)]
 
+mod examples;
 mod fault;
 mod laws;
 mod piece;
 mod spot;
 mod token;
 
+pub use examples::{a_string_is_a_piece, the_longest_form_is_a_piece};
 pub use fault::LexFault;
 pub use laws::{
     a_text_has_one_first_fault, a_text_has_one_piece_in_front, a_text_has_one_string_in_front,

@@ -1,0 +1,2 @@
+pub mod PieceExamples
+pub mod StringExamples
