@@ -1,2 +1,3 @@
 pub mod PieceExamples
 pub mod StringExamples
+pub mod TextExamples

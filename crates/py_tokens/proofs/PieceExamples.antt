@@ -1,12 +1,11 @@
 -- The pieces of some texts.
 use Rattle.std.specs.Prelude.{codes}
 use Rattle.std.specs.List.{list_all}
-use Rattle.std.proofs.Common.{ℕ, pos, ◌≡◌, ◌<◌, ◌==◌, ◌&&◌, ◌⊎◌, inl, inr, not, Bool, true, false, arith, refl, sym, ap, ◌∙◌, subst, List, [], ◌∷◌, ◌++◌, append-nil, append_assoc, lit<, tests}
+use Rattle.std.proofs.Common.{ℕ, pos, ◌≡◌, ◌==◌, ◌&&◌, ◌⊎◌, inl, inr, not, Bool, true, false, arith, refl, sym, ap, ◌∙◌, subst, List, [], ◌∷◌, ◌++◌, append_assoc, lit<, tests}
 use Rattle.unicode_ident.proofs.Computing.{unicode_ident}
 use Rattle.py_base.specs.declared.Place.{Place}
 use Rattle.py_tokens.specs.declared.piece.Shape.TheVariants as shapes
 use Rattle.py_tokens.specs.declared.token.TokenForm.TheVariants as forms
-use Rattle.py_tokens.specs.declared.token.Keyword.{Keyword}
 use Rattle.py_tokens.specs.declared.token.Keyword.TheVariants as keys
 use Rattle.py_tokens.specs.declared.token.Mark.{Mark}
 use Rattle.py_tokens.specs.declared.token.Mark.TheVariants as marks
@@ -16,10 +15,10 @@ use Rattle.py_tokens.specs.StringForms.{Quotes, OpensWith}
 use Rattle.py_tokens.specs.WordLaws as word
 use Rattle.py_tokens.specs.WordLaws.{beginning, plain_begins, same_text, keyword_of, keyword_found, mark_of, mark_found}
 use Rattle.py_tokens.specs.PieceLaws.{opens_begins}
-use Rattle.py_tokens.specs.TextPieces.{Longest, IsWord, IsKeyword, IsNumber, IsMark, IsComment, BeginsNone, IsPiece, a_name, a_keyword, a_number, a_mark, a_comment, a_stray}
+use Rattle.py_tokens.specs.TextPieces.{Longest, IsKeyword, IsMark, IsComment, IsPiece, a_name, a_keyword, a_number, a_mark, a_comment, a_stray}
 
 -- no longer front of the text passes the test
-abbrev none_longer : (List ℕ → Bool) → List ℕ → List ℕ → Bool
+abbrev pub none_longer : (List ℕ → Bool) → List ℕ → List ℕ → Bool
 none_longer test front [] = true
 none_longer test front (c ∷ rest) = not (test (front ++ c ∷ [])) && none_longer test (front ++ c ∷ []) rest
 
@@ -44,7 +43,7 @@ no_longer test (c ∷ rest) front (m ∷ n ∷ more) behind h e t =
     let none : n ∷ more ≡ [] = no_longer test rest (front ++ c ∷ []) (n ∷ more) behind (both (not (test (front ++ c ∷ []))) (none_longer test (front ++ c ∷ []) rest) h).1 l u in
     cc
 
-longest_by : (test : List ℕ → Bool) (front rest : List ℕ) → test front ≡ true → none_longer test front rest ≡ true → Longest (λ cs. test cs ≡ true) front rest
+pub longest_by : (test : List ℕ → Bool) (front rest : List ℕ) → test front ≡ true → none_longer test front rest ≡ true → Longest (λ cs. test cs ≡ true) front rest
 longest_by test front rest h i = (h, λ more behind. no_longer test rest front more behind i)
 
 no_front : (test : List ℕ → Bool) (cs : List ℕ) → test [] ≡ false → none_longer test [] cs ≡ true → (front rest : List ℕ) → cs ≡ front ++ rest → test front ≡ true → ⊥
@@ -53,7 +52,7 @@ no_front test cs h i front rest e t =
     let k : test [] ≡ true = subst (λ (f : List ℕ). test f ≡ true) none t in cc
 
 -- the tests that marks and comments pass
-abbrev is_mark : List ℕ → Bool
+abbrev pub is_mark : List ℕ → Bool
 is_mark cs = same_text cs (mark_text (mark_of cs))
 
 same_itself : (cs : List ℕ) → same_text cs cs ≡ true
@@ -77,7 +76,7 @@ is_comment (c ∷ cs) = (c == 35) && list_all (λ c. not (c == 10)) cs
 comment_passes : (cs : List ℕ) → IsComment cs → is_comment cs ≡ true
 comment_passes cs h = let (text, e, t) = h in ap is_comment e ∙ t
 
-longest_mark : (m : Mark) (rest : List ℕ) → none_longer is_mark (mark_text m) rest ≡ true → Longest IsMark (mark_text m) rest
+pub longest_mark : (m : Mark) (rest : List ℕ) → none_longer is_mark (mark_text m) rest ≡ true → Longest IsMark (mark_text m) rest
 longest_mark m rest h = ((m, refl), λ more behind e i. no_longer is_mark rest (mark_text m) more behind h e (mark_passes (mark_text m ++ more) i))
 
 pub number_example : (p : Place) → IsPiece p (codes "1_0") (codes "__0") (shapes.Whole (forms.Number (pos 10)))

@@ -1,6 +1,6 @@
 -- The strings in front of some texts.
 use Rattle.std.specs.Prelude.{codes}
-use Rattle.std.proofs.Common.{ℕ, ◌≡◌, ◌⊎◌, inl, inr, arith, refl, sym, ap, ◌∙◌, subst, List, [], ◌∷◌, ◌++◌}
+use Rattle.std.proofs.Common.{ℕ, ◌≡◌, inl, arith, refl, sym, subst, List, [], ◌∷◌}
 use Rattle.py_base.specs.declared.Place.{Place}
 use Rattle.py_tokens.specs.declared.piece.Shape.TheVariants as shapes
 use Rattle.py_tokens.specs.declared.token.TokenForm.TheVariants as forms
@@ -27,9 +27,18 @@ unfolding lib.Utf8.encode
 triple_example p = a_string (Triple 39) (Plain 39 ∷ Plain 97 ∷ []) (codes "'a") spells (97 ∷ [], refl, ([], refl, refl))
   where
     spells : SpellsString (codes "''''a'''b") (Triple 39) (Plain 39 ∷ Plain 97 ∷ []) (codes "b")
-    spells = (codes "'a'''b", opens_triple 39 (inl refl) (codes "'a'''b", refl), refl,
-      (codes "a'''b", refl, not_second 39 39 97 39 (codes "'''b") (39 ∷ []) (omega arith), (omega arith, tt),
-        (codes "'''b", refl, not_first 97 39 (codes "'''b") (39 ∷ 39 ∷ []) (omega arith), (omega arith, tt), refl)))
+    spells = (
+      codes "'a'''b",
+      opens_triple 39 (inl refl) (codes "'a'''b", refl),
+      refl,
+      (
+        codes "a'''b",
+        refl,
+        not_second 39 39 97 39 (codes "'''b") (39 ∷ []) (omega arith),
+        (omega arith, tt),
+        (codes "'''b", refl, not_first 97 39 (codes "'''b") (39 ∷ 39 ∷ []) (omega arith), (omega arith, tt), refl),
+      ),
+    )
 
 no_q : (c v : ℕ) → IsEscape c v → BeginsWith (codes "q'") (c ∷ []) → ⊥
 no_q c v backslash h = not_first 113 92 (codes "'") [] (omega arith) h
@@ -42,10 +51,24 @@ pub bad_example : IsPiece (record { line = 3; col = 5 }) (codes "'a\\q'") [] (sh
 bad_example = a_bad_escape (Single 39) (Plain 97 ∷ []) (Plain 113 ∷ []) (codes "a") spells ([], refl, refl)
   where
     spells : SpellsString (codes "'a\\q'") (Single 39) (Plain 97 ∷ LoneBackslash ∷ Plain 113 ∷ []) []
-    spells = (codes "a\\q'", opens_single 39 (inl refl) (codes "a\\q'", refl) (not_second 39 39 97 39 (codes "\\q'") (39 ∷ []) (omega arith)), refl,
-      (codes "\\q'", refl, not_first 97 39 (codes "\\q'") [] (omega arith), (omega arith, omega arith),
-        (codes "q'", refl, not_first 92 39 (codes "q'") [] (omega arith), no_q,
-          (codes "'", refl, not_first 113 39 (codes "'") [] (omega arith), (omega arith, omega arith), refl))))
+    spells = (
+      codes "a\\q'",
+      opens_single 39 (inl refl) (codes "a\\q'", refl) (not_second 39 39 97 39 (codes "\\q'") (39 ∷ []) (omega arith)),
+      refl,
+      (
+        codes "\\q'",
+        refl,
+        not_first 97 39 (codes "\\q'") [] (omega arith),
+        (omega arith, omega arith),
+        (
+          codes "q'",
+          refl,
+          not_first 92 39 (codes "q'") [] (omega arith),
+          no_q,
+          (codes "'", refl, not_first 113 39 (codes "'") [] (omega arith), (omega arith, omega arith), refl),
+        ),
+      ),
+    )
 
 other_first : (c d : ℕ) (cs ds : List ℕ) → (c ≡ d → ⊥) → c ∷ cs ≡ d ∷ ds → ⊥
 other_first c d cs ds n e = let k : c ≡ d = cc in n k

@@ -12,3 +12,4 @@ pub mod PlaceLaws
 pub mod CutLaws
 pub mod LayoutLaws
 pub mod TokenLaws
+pub mod TextExamples

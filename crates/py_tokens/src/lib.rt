@@ -8,7 +8,7 @@ mod piece;
 mod spot;
 mod token;
 
-pub use examples::{a_string_is_a_piece, the_longest_form_is_a_piece};
+pub use examples::{a_string_is_a_piece, a_text_of_two_lines, the_longest_form_is_a_piece};
 pub use fault::LexFault;
 pub use laws::{
     a_text_has_one_first_fault, a_text_has_one_piece_in_front, a_text_has_one_string_in_front,
