@@ -5,11 +5,9 @@ ghost use Rattle.py_tokens.specs.declared.piece.Shape.TheVariants as shapes;
 ghost use Rattle.py_tokens.specs.declared.token.TokenForm.TheVariants as forms;
 ghost use Rattle.py_tokens.specs.declared.token.Keyword.TheVariants as keys;
 ghost use Rattle.py_tokens.specs.declared.token.Mark.TheVariants as marks;
-ghost use Rattle.py_tokens.specs.PlacedText.{text_characters, text_start, after};
 ghost use Rattle.py_tokens.specs.TextPieces.{IsPiece};
-ghost use Rattle.py_tokens.specs.LineLayout.{before_all, LaidOut, EndsWith};
-ghost use Rattle.py_tokens.specs.TextTokens.{PiecesOf};
-ghost use Rattle.py_tokens.specs.TextExamples.{two_lines, two_line_pieces, two_line_tokens, behind_two_lines, two_line_end};
+ghost use Rattle.py_tokens.specs.TextTokens.{PiecesOf, Tokens};
+ghost use Rattle.py_tokens.specs.TextExamples.{two_lines, two_line_pieces, two_line_tokens, two_line_end};
 
 /// The longest form is a piece: a number ends where no digit follows an underscore, and behind a
 /// leading 0.
@@ -36,6 +34,5 @@ pub fn a_string_is_a_piece()
 /// reader expects.
 pub fn a_text_of_two_lines()
     ensures pieces { PiecesOf two_lines two_line_pieces }
-    ensures laid { LaidOut before_all two_line_pieces two_line_tokens behind_two_lines }
-    ensures ends { EndsWith behind_two_lines (after text_start (text_characters two_lines)) two_line_end }
+    ensures tokens { Tokens two_lines (two_line_tokens ++ two_line_end) }
 {}

@@ -1,11 +1,9 @@
-use Rattle.py_tokens.proofs.TextExamples.{pieces_example, laid_example, ends_example}
+use Rattle.py_tokens.proofs.TextExamples.{pieces_example}
+use Rattle.py_tokens.proofs.TokensExample.{tokens_example}
 use Rattle.py_tokens.proofs.examples.a_text_of_two_lines.Goals as goal
 
 pub returns-clause-pieces : goal.returns-clause-pieces
 returns-clause-pieces c = pieces_example
 
-pub returns-clause-laid : goal.returns-clause-laid
-returns-clause-laid c = laid_example
-
-pub returns-clause-ends : goal.returns-clause-ends
-returns-clause-ends c = ends_example
+pub returns-clause-tokens : goal.returns-clause-tokens
+returns-clause-tokens c = tokens_example
