@@ -5,3 +5,11 @@ pub mod StringForms
 pub mod TextPieces
 pub mod LineLayout
 pub mod TextTokens
+pub mod WordLaws
+pub mod StringLaws
+pub mod PieceLaws
+pub mod PlaceLaws
+pub mod CutLaws
+pub mod LayoutLaws
+pub mod TokenLaws
+pub mod TextExamples

@@ -1,12 +1,13 @@
 -- The layout of lines: the ends of lines and the stack of widths. (Language Reference, "Logical lines", "Implicit line joining", "Blank lines" and "Indentation".)
 use Rattle.std.specs.Prelude.{ℕ, ◌+◌, ◌-◌, ◌<◌, ◌==◌, ◌≡◌, ◌⊎◌, List, [], ◌∷◌, ◌++◌, if◌then◌else◌}
 use Rattle.py_base.specs.declared.Place.{Place}
+use Rattle.py_tokens.specs.declared.piece.Piece.{Piece}
+use Rattle.py_tokens.specs.declared.piece.Shape.TheVariants as shapes
 use Rattle.py_tokens.specs.declared.token.Token.{Token}
 use Rattle.py_tokens.specs.declared.token.TokenForm.{TokenForm}
 use Rattle.py_tokens.specs.declared.token.TokenForm.TheVariants as forms
 use Rattle.py_tokens.specs.declared.token.Mark.{Mark}
 use Rattle.py_tokens.specs.declared.token.Mark.TheVariants as marks
-use Rattle.py_tokens.specs.TextPieces.{Whole, Space, Tab, Comment, LineEnd, Piece}
 
 -- a line that has no token so far, or the end of its last token
 pub data Line : Type 0 where
@@ -61,12 +62,12 @@ behind b piece form widths = record { line = Behind piece.end; brackets = bracke
 
 -- The tokens that a piece brings, and what is then.
 pub data Lays (b : Between) (piece : Piece) (ts : List Token) (next : Between) : Type 0 where
-  separates : (piece.shape ≡ Space) ⊎ ((piece.shape ≡ Tab) ⊎ (piece.shape ≡ Comment)) → ts ≡ [] → next ≡ b → Lays b piece ts next
-  begins_line : (form : TokenForm) (turn : List Token) (widths : List ℕ) → piece.shape ≡ Whole form → b.line ≡ Fresh → Turns piece.place (width_at piece.place) b.widths turn widths → ts ≡ turn ++ token_of piece form ∷ [] → next ≡ behind b piece form widths → Lays b piece ts next
-  goes_on : (form : TokenForm) (e : Place) → piece.shape ≡ Whole form → b.line ≡ Behind e → ts ≡ token_of piece form ∷ [] → next ≡ behind b piece form b.widths → Lays b piece ts next
-  ends_line : (e : Place) → piece.shape ≡ LineEnd → b.line ≡ Behind e → b.brackets ≡ 0 → ts ≡ token_at e forms.Newline ∷ [] → next ≡ record { line = Fresh; brackets = 0; widths = b.widths } → Lays b piece ts next
-  ends_blank_line : piece.shape ≡ LineEnd → b.line ≡ Fresh → ts ≡ [] → next ≡ b → Lays b piece ts next
-  ends_within_brackets : (e : Place) → piece.shape ≡ LineEnd → b.line ≡ Behind e → 0 < b.brackets → ts ≡ [] → next ≡ b → Lays b piece ts next
+  separates : (piece.shape ≡ shapes.Space) ⊎ ((piece.shape ≡ shapes.Tab) ⊎ (piece.shape ≡ shapes.Comment)) → ts ≡ [] → next ≡ b → Lays b piece ts next
+  begins_line : (form : TokenForm) (turn : List Token) (widths : List ℕ) → piece.shape ≡ shapes.Whole form → b.line ≡ Fresh → Turns piece.place (width_at piece.place) b.widths turn widths → ts ≡ turn ++ token_of piece form ∷ [] → next ≡ behind b piece form widths → Lays b piece ts next
+  goes_on : (form : TokenForm) (e : Place) → piece.shape ≡ shapes.Whole form → b.line ≡ Behind e → ts ≡ token_of piece form ∷ [] → next ≡ behind b piece form b.widths → Lays b piece ts next
+  ends_line : (e : Place) → piece.shape ≡ shapes.LineEnd → b.line ≡ Behind e → b.brackets ≡ 0 → ts ≡ token_at e forms.Newline ∷ [] → next ≡ record { line = Fresh; brackets = 0; widths = b.widths } → Lays b piece ts next
+  ends_blank_line : piece.shape ≡ shapes.LineEnd → b.line ≡ Fresh → ts ≡ [] → next ≡ b → Lays b piece ts next
+  ends_within_brackets : (e : Place) → piece.shape ≡ shapes.LineEnd → b.line ≡ Behind e → 0 < b.brackets → ts ≡ [] → next ≡ b → Lays b piece ts next
 
 -- the tokens that these pieces bring, and what is behind them
 abbrev pub LaidOut : Between → List Piece → List Token → Between → Type 0

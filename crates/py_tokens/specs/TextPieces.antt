@@ -1,8 +1,10 @@
 -- A text cut into pieces, each the longest that fits. Each character is in exactly one piece. (Language Reference, "Comments", "Whitespace between tokens" and "Other tokens".)
-use Rattle.std.specs.Prelude.{ℕ, pos, List, [], ◌∷◌, ◌++◌, ◌≡◌, ◌⊎◌, ◌==◌, not, IsTrue, encode_utf8_all}
+use Rattle.std.specs.Prelude.{ℕ, pos, ◌<◌, ◌≤◌, ◌^◌, List, [], ◌∷◌, ◌++◌, ◌≡◌, ◌⊎◌, ◌==◌, not, IsTrue, encode_utf8_all}
 use Rattle.std.specs.List.{list_all}
 use Rattle.py_base.specs.declared.Place.{Place}
-use Rattle.py_tokens.specs.declared.token.TokenForm.{TokenForm}
+use Rattle.py_tokens.specs.declared.piece.Piece.{Piece}
+use Rattle.py_tokens.specs.declared.piece.Shape.{Shape}
+use Rattle.py_tokens.specs.declared.piece.Shape.TheVariants as shapes
 use Rattle.py_tokens.specs.declared.token.TokenForm.TheVariants as forms
 use Rattle.py_tokens.specs.declared.token.Keyword.{Keyword}
 use Rattle.py_tokens.specs.declared.token.Mark.{Mark}
@@ -10,17 +12,6 @@ use Rattle.py_tokens.specs.PlacedText.{after}
 use Rattle.py_tokens.specs.WordForms.{is_word, keyword_text, is_number, number_value}
 use Rattle.py_tokens.specs.MarkForms.{mark_text}
 use Rattle.py_tokens.specs.StringForms.{Quotes, Part, LoneBackslash, OpensWith, SpellsString, IsOpenString, StandsFor, characters_of, quote_text}
-
--- What a piece is: a token, what separates tokens, or what no text with tokens has: a string with a backslash that begins no escape, by the characters in front of the first such backslash; a string without its end; a character that begins no token.
-pub data Shape : Type 0 where
-  Whole : TokenForm → Shape
-  Space : Shape
-  Tab : Shape
-  Comment : Shape
-  LineEnd : Shape
-  BadEscape : List ℕ → Shape
-  Unclosed : Shape
-  Stray : Shape
 
 -- the front has the form, and together with characters behind it it hasn't
 abbrev pub Longest : (List ℕ → Type 0) → List ℕ → List ℕ → Type 0
@@ -51,28 +42,23 @@ pub record BeginsNone (c : ℕ) (cs : List ℕ) : Type 0 where
   pub no_string : (quotes : Quotes) → ¬ OpensWith (c ∷ cs) quotes
   pub no_separator : ¬ ((c ≡ 32) ⊎ ((c ≡ 9) ⊎ (c ≡ 10)))
 
--- In front of the rest stands a piece of the shape. A name and a string are given by the bytes of their characters in UTF-8.
-pub data IsPiece (front rest : List ℕ) : Shape → Type 0 where
-  a_name : Longest IsWord front rest → ¬ IsKeyword front → IsPiece front rest (Whole (forms.Name (encode_utf8_all front)))
-  a_keyword : (k : Keyword) → Longest IsWord front rest → front ≡ keyword_text k → IsPiece front rest (Whole (forms.Key k))
-  a_number : Longest IsNumber front rest → IsPiece front rest (Whole (forms.Number (pos (number_value front))))
-  a_mark : (m : Mark) → Longest IsMark front rest → front ≡ mark_text m → IsPiece front rest (Whole (forms.Mark m))
-  a_string : (quotes : Quotes) (parts : List Part) (value : List ℕ) → SpellsString (front ++ rest) quotes parts rest → StandsFor parts value → IsPiece front rest (Whole (forms.Str (encode_utf8_all value)))
-  a_space : front ≡ 32 ∷ [] → IsPiece front rest Space
-  a_tab : front ≡ 9 ∷ [] → IsPiece front rest Tab
-  a_comment : Longest IsComment front rest → IsPiece front rest Comment
-  a_line_end : front ≡ 10 ∷ [] → IsPiece front rest LineEnd
-  a_bad_escape : (quotes : Quotes) (parts more : List Part) (value : List ℕ) → SpellsString (front ++ rest) quotes (parts ++ LoneBackslash ∷ more) rest → StandsFor parts value → IsPiece front rest (BadEscape (quote_text quotes ++ characters_of parts))
-  an_open_string : IsOpenString front → rest ≡ [] → IsPiece front rest Unclosed
-  a_stray : (c : ℕ) → front ≡ c ∷ [] → BeginsNone c rest → IsPiece front rest Stray
+-- At the place stands a piece of the shape, with the rest behind it. A name and a string are given by the bytes of their characters in UTF-8, and a backslash that begins no escape by its place.
+pub data IsPiece (p : Place) (front rest : List ℕ) : Shape → Type 0 where
+  a_name : Longest IsWord front rest → ¬ IsKeyword front → IsPiece p front rest (shapes.Whole (forms.Name (encode_utf8_all front)))
+  a_keyword : (k : Keyword) → Longest IsWord front rest → front ≡ keyword_text k → IsPiece p front rest (shapes.Whole (forms.Key k))
+  a_number : Longest IsNumber front rest → number_value front < 2 ^ 127 → IsPiece p front rest (shapes.Whole (forms.Number (pos (number_value front))))
+  a_large_number : Longest IsNumber front rest → 2 ^ 127 ≤ number_value front → IsPiece p front rest shapes.LargeNumber
+  a_mark : (m : Mark) → Longest IsMark front rest → front ≡ mark_text m → IsPiece p front rest (shapes.Whole (forms.Mark m))
+  a_string : (quotes : Quotes) (parts : List Part) (value : List ℕ) → SpellsString (front ++ rest) quotes parts rest → StandsFor parts value → IsPiece p front rest (shapes.Whole (forms.Str (encode_utf8_all value)))
+  a_space : front ≡ 32 ∷ [] → IsPiece p front rest shapes.Space
+  a_tab : front ≡ 9 ∷ [] → IsPiece p front rest shapes.Tab
+  a_comment : Longest IsComment front rest → IsPiece p front rest shapes.Comment
+  a_line_end : front ≡ 10 ∷ [] → IsPiece p front rest shapes.LineEnd
+  a_bad_escape : (quotes : Quotes) (parts more : List Part) (value : List ℕ) → SpellsString (front ++ rest) quotes (parts ++ LoneBackslash ∷ more) rest → StandsFor parts value → IsPiece p front rest (shapes.BadEscape (after p (quote_text quotes ++ characters_of parts)))
+  an_open_string : IsOpenString front → rest ≡ [] → IsPiece p front rest shapes.Unclosed
+  a_stray : (c : ℕ) → front ≡ c ∷ [] → BeginsNone c rest → IsPiece p front rest shapes.Stray
 
--- a piece from its place up to the place just after it
-pub record Piece : Type 0 where
-  pub place : Place
-  pub end : Place
-  pub shape : Shape
-
--- the characters that begin at a place are these pieces
+-- the characters that begin at a place are these pieces, each from its place up to the place just after it
 abbrev pub CutInto : Place → List ℕ → List Piece → Type 0
 CutInto p cs [] = cs ≡ []
-CutInto p cs (piece ∷ pieces) = (front : List ℕ) × (rest : List ℕ) × (cs ≡ front ++ rest) × IsPiece front rest piece.shape × (piece.place ≡ p) × (piece.end ≡ after p front) × CutInto piece.end rest pieces
+CutInto p cs (piece ∷ pieces) = (front : List ℕ) × (rest : List ℕ) × (cs ≡ front ++ rest) × IsPiece p front rest piece.shape × (piece.place ≡ p) × (piece.end ≡ after p front) × CutInto piece.end rest pieces

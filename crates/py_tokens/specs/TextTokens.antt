@@ -1,40 +1,49 @@
 -- The tokens of a text, and its faults. The limits on names and numbers and the order of faults are this project's own.
-use Rattle.std.specs.Prelude.{ℕ, ◌+◌, ◌^◌, ◌<◌, ◌≤◌, ◌≡◌, ◌⊎◌, pos, List, [], ◌∷◌, ◌++◌, length, Contains, All}
+use Rattle.std.specs.Prelude.{ℕ, ◌+◌, ◌<◌, ◌≤◌, ◌≡◌, ◌⊎◌, pos, List, [], ◌∷◌, ◌++◌, length, Contains, All}
 use Rattle.std.specs.Str.{IsUtf8, chars}
 use Rattle.unicode_normalization.specs.Forms.{IsInForm}
 use Rattle.unicode_normalization.specs.declared.Form.TheVariants as normal
 use Rattle.py_base.specs.declared.Place.{Place}
+use Rattle.py_tokens.specs.declared.piece.Piece.{Piece}
+use Rattle.py_tokens.specs.declared.piece.Shape.{Shape}
+use Rattle.py_tokens.specs.declared.piece.Shape.TheVariants as shapes
 use Rattle.py_tokens.specs.declared.token.Token.{Token}
 use Rattle.py_tokens.specs.declared.token.TokenForm.TheVariants as forms
 use Rattle.py_tokens.specs.declared.token.Keyword.{Keyword}
 use Rattle.py_tokens.specs.declared.fault.LexFault.{LexFault}
 use Rattle.py_tokens.specs.declared.fault.LexFault.TheVariants as faults
 use Rattle.py_tokens.specs.PlacedText.{text_characters, text_start, after, IsBadByteAt}
-use Rattle.py_tokens.specs.TextPieces.{Shape, Whole, Space, Tab, BadEscape, Unclosed, Stray, Piece, CutInto}
+use Rattle.py_tokens.specs.TextPieces.{CutInto}
 use Rattle.py_tokens.specs.LineLayout.{Between, before_all, Fresh, width_at, LaidOut, EndsWith}
 
 -- the bytes are UTF-8, and their characters are these pieces
 abbrev pub PiecesOf : List ℕ → List Piece → Type 0
 PiecesOf bytes pieces = IsUtf8 bytes × CutInto text_start (text_characters bytes) pieces
 
+-- A number, of any size.
+pub data IsNumeral : Shape → Type 0 where
+  fits : (n : ℕ) → IsNumeral (shapes.Whole (forms.Number (pos n)))
+  is_large : IsNumeral shapes.LargeNumber
+
 -- A piece with a name character or a digit in front.
 pub data BeginsAsName : Shape → Type 0 where
-  as_name : (name : List ℕ) → BeginsAsName (Whole (forms.Name name))
-  as_keyword : (k : Keyword) → BeginsAsName (Whole (forms.Key k))
-  as_number : (n : ℕ) → BeginsAsName (Whole (forms.Number (pos n)))
+  as_name : (name : List ℕ) → BeginsAsName (shapes.Whole (forms.Name name))
+  as_keyword : (k : Keyword) → BeginsAsName (shapes.Whole (forms.Key k))
+  as_number : (shape : Shape) → IsNumeral shape → BeginsAsName shape
 
--- A token begins here, even a string that is faulty.
+-- A token begins here, even a number that is too large or a string that is faulty.
 abbrev pub BeginsToken : Shape → Type 0
-BeginsToken (Whole form) = Unit {0}
-BeginsToken (BadEscape cs) = Unit {0}
-BeginsToken Unclosed = Unit {0}
+BeginsToken (shapes.Whole form) = Unit {0}
+BeginsToken shapes.LargeNumber = Unit {0}
+BeginsToken (shapes.BadEscape p) = Unit {0}
+BeginsToken shapes.Unclosed = Unit {0}
 BeginsToken shape = ⊥
 
 abbrev pub IsSpace : Piece → Type 0
-IsSpace piece = piece.shape ≡ Space
+IsSpace piece = piece.shape ≡ shapes.Space
 
 abbrev pub IsBlank : Piece → Type 0
-IsBlank piece = (piece.shape ≡ Space) ⊎ (piece.shape ≡ Tab)
+IsBlank piece = (piece.shape ≡ shapes.Space) ⊎ (piece.shape ≡ shapes.Tab)
 
 -- outside brackets, no token of the line stands in front of what follows these pieces; and what is then
 abbrev pub FreshAfter : List Piece → Between → Type 0
@@ -48,15 +57,15 @@ IsNewBelow width (w ∷ ws) = (width < w) × ¬ Contains ws width
 -- The bytes have the fault.
 pub data HasFault (bytes : List ℕ) : LexFault → Type 0 where
   bad_utf8 : (p : Place) → IsBadByteAt bytes p → HasFault bytes (faults.BadUtf8 p)
-  begins_no_token : (before rest : List Piece) (piece : Piece) → PiecesOf bytes (before ++ piece ∷ rest) → piece.shape ≡ Stray → HasFault bytes (faults.BadCharacter piece.place)
-  after_number : (before rest : List Piece) (number piece : Piece) (n : ℕ) → PiecesOf bytes (before ++ number ∷ piece ∷ rest) → number.shape ≡ Whole (forms.Number (pos n)) → BeginsAsName piece.shape → HasFault bytes (faults.BadCharacter piece.place)
-  bad_escape : (before rest : List Piece) (piece : Piece) (front : List ℕ) → PiecesOf bytes (before ++ piece ∷ rest) → piece.shape ≡ BadEscape front → HasFault bytes (faults.BadCharacter (after piece.place front))
-  tab_in_indent : (before spaces blanks rest : List Piece) (tab first : Piece) (b : Between) → PiecesOf bytes (before ++ spaces ++ tab ∷ blanks ++ first ∷ rest) → FreshAfter before b → All IsSpace spaces → length spaces + 1 ≡ tab.place.col → tab.shape ≡ Tab → All IsBlank blanks → BeginsToken first.shape → HasFault bytes (faults.TabInIndent tab.place)
+  begins_no_token : (before rest : List Piece) (piece : Piece) → PiecesOf bytes (before ++ piece ∷ rest) → piece.shape ≡ shapes.Stray → HasFault bytes (faults.BadCharacter piece.place)
+  after_number : (before rest : List Piece) (number piece : Piece) → PiecesOf bytes (before ++ number ∷ piece ∷ rest) → IsNumeral number.shape → BeginsAsName piece.shape → HasFault bytes (faults.BadCharacter piece.place)
+  bad_escape : (before rest : List Piece) (piece : Piece) (p : Place) → PiecesOf bytes (before ++ piece ∷ rest) → piece.shape ≡ shapes.BadEscape p → HasFault bytes (faults.BadCharacter p)
+  tab_in_indent : (before spaces blanks rest : List Piece) (tab first : Piece) (b : Between) → PiecesOf bytes (before ++ spaces ++ tab ∷ blanks ++ first ∷ rest) → FreshAfter before b → All IsSpace spaces → length spaces + 1 ≡ tab.place.col → tab.shape ≡ shapes.Tab → All IsBlank blanks → BeginsToken first.shape → HasFault bytes (faults.TabInIndent tab.place)
   bad_dedent : (before rest : List Piece) (first : Piece) (b : Between) → PiecesOf bytes (before ++ first ∷ rest) → FreshAfter before b → BeginsToken first.shape → IsNewBelow (width_at first.place) b.widths → HasFault bytes (faults.BadDedent first.place)
-  open_string : (before rest : List Piece) (piece : Piece) → PiecesOf bytes (before ++ piece ∷ rest) → piece.shape ≡ Unclosed → HasFault bytes (faults.OpenString piece.place)
-  literal_too_large : (before rest : List Piece) (piece : Piece) (n : ℕ) → PiecesOf bytes (before ++ piece ∷ rest) → piece.shape ≡ Whole (forms.Number (pos n)) → 2 ^ 127 ≤ n → HasFault bytes (faults.LiteralTooLarge piece.place)
-  name_not_nfkc : (before rest : List Piece) (piece : Piece) (name : List ℕ) → PiecesOf bytes (before ++ piece ∷ rest) → piece.shape ≡ Whole (forms.Name name) → ¬ IsInForm normal.Nfkc (chars name) → HasFault bytes (faults.NameNotNfkc piece.place)
-  name_too_long : (before rest : List Piece) (piece : Piece) (name : List ℕ) → PiecesOf bytes (before ++ piece ∷ rest) → piece.shape ≡ Whole (forms.Name name) → 255 < length name → HasFault bytes (faults.NameTooLong piece.place)
+  open_string : (before rest : List Piece) (piece : Piece) → PiecesOf bytes (before ++ piece ∷ rest) → piece.shape ≡ shapes.Unclosed → HasFault bytes (faults.OpenString piece.place)
+  literal_too_large : (before rest : List Piece) (piece : Piece) → PiecesOf bytes (before ++ piece ∷ rest) → piece.shape ≡ shapes.LargeNumber → HasFault bytes (faults.LiteralTooLarge piece.place)
+  name_not_nfkc : (before rest : List Piece) (piece : Piece) (name : List ℕ) → PiecesOf bytes (before ++ piece ∷ rest) → piece.shape ≡ shapes.Whole (forms.Name name) → ¬ IsInForm normal.Nfkc (chars name) → HasFault bytes (faults.NameNotNfkc piece.place)
+  name_too_long : (before rest : List Piece) (piece : Piece) (name : List ℕ) → PiecesOf bytes (before ++ piece ∷ rest) → piece.shape ≡ shapes.Whole (forms.Name name) → 255 < length name → HasFault bytes (faults.NameTooLong piece.place)
 
 -- the place of a fault
 abbrev pub place_of : LexFault → Place

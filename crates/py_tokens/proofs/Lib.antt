@@ -1,0 +1,4 @@
+pub mod PieceExamples
+pub mod StringExamples
+pub mod TextExamples
+pub mod TokensExample
