@@ -1,2 +1,4 @@
 pub mod CharacterCount
+pub mod Forms
 pub mod LongestWord
+pub mod OpenWidths

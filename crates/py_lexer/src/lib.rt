@@ -1,7 +1,10 @@
 //! The parts of the lexer that are built so far.
 #![tactic(auto)]
 
+mod faults;
+mod layout;
 mod places;
+mod widths;
 mod words;
 
 pub use places::{TextSpots, characters};

@@ -55,7 +55,7 @@ fn checked(text: &[u8]) -> Result<&str, usize>
 }
 
 // The text of bytes in UTF-8.
-fn as_text(bytes: &[u8]) -> &str
+pub fn as_text(bytes: &[u8]) -> &str
     requires { IsUtf8 bytes.now }
     ensures { result.now ≡ bytes.now }
 {
