@@ -2,3 +2,4 @@ pub mod CharacterCount
 pub mod Forms
 pub mod LongestWord
 pub mod OpenWidths
+pub mod Walks

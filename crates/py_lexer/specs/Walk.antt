@@ -1,5 +1,5 @@
 -- One pass over the pieces of a text: what stands in front of a piece, the fault that it has there, and the tokens that it brings.
-use Rattle.std.specs.Prelude.{ℕ, ◌+◌, ◌-◌, ◌<◌, ◌==◌, ◌≡◌, ◌&&◌, ◌⊎◌, nat_lt, nat_le, Bool, true, false, not, List, [], ◌∷◌, ◌++◌, length, if◌then◌else◌, Option, Some, None, Result, Ok, Err, All}
+use Rattle.std.specs.Prelude.{ℕ, ◌+◌, ◌-◌, ◌<◌, ◌==◌, ◌≡◌, ◌&&◌, ◌⊎◌, nat_lt, nat_le, Bool, true, false, not, List, [], ◌∷◌, ◌++◌, length, if◌then◌else◌, Option, Some, None, Result, Ok, Err}
 use Rattle.std.specs.List.{list_any}
 use Rattle.std.specs.Str.{IsUtf8, chars}
 use Rattle.unicode_normalization.specs.Forms.{is_in_form}
@@ -148,15 +148,19 @@ tokens_of layout piece shapes.LineEnd = newlines_of (line_of layout.line) layout
 tokens_of layout piece (shapes.Whole form) = form_turn (line_of layout.line) layout.widths piece.place ++ token_of piece form ∷ []
 tokens_of layout piece shape = []
 
+-- the line behind a piece that is no token and no end of a line
+abbrev pub past_other : Shape → LineFront → Place → Place → LineFront
+past_other shapes.Space line p e = past_number line
+past_other shapes.Tab line p e = past_tab line p
+past_other shapes.Comment line p e = past_comment line
+past_other shapes.LargeNumber line p e = fronts.Number e
+past_other shape line p e = fronts.Behind e
+
 -- what stands in front of the next piece
 abbrev pub layout_past : Layout → Piece → Shape → Layout
 layout_past layout piece (shapes.Whole form) = record { line = past_form form piece.end; brackets = brackets_behind form layout.brackets; widths = form_widths (line_of layout.line) layout.widths piece.place }
-layout_past layout piece shapes.LargeNumber = record layout { line = fronts.Number piece.end }
-layout_past layout piece shapes.Space = record layout { line = past_number layout.line }
-layout_past layout piece shapes.Tab = record layout { line = past_tab layout.line piece.place }
-layout_past layout piece shapes.Comment = record layout { line = past_comment layout.line }
 layout_past layout piece shapes.LineEnd = record layout { line = past_line_end layout.line layout.brackets }
-layout_past layout piece shape = record layout { line = fronts.Behind piece.end }
+layout_past layout piece shape = record layout { line = past_other shape layout.line piece.place piece.end }
 
 abbrev pub next_layout : Layout → Piece → Layout
 next_layout layout piece = layout_past layout piece piece.shape
@@ -168,16 +172,19 @@ first_layout = record { line = fronts.Spaces; brackets = 0; widths = 0 ∷ [] }
 abbrev pub closing_of : Layout → Place → List Token
 closing_of layout p = last_newline (between_of layout) ++ dedents_of (end_place p) 0 layout.widths ++ token_at (end_place p) forms.End ∷ []
 
-abbrev mutual
-  -- the tokens so far and those of the pieces, or the first fault
-  pub walked : Place → Layout → List Token → List Piece → Result (List Token) LexFault
-  walked p layout ts [] = Ok (ts ++ closing_of layout p)
-  walked p layout ts (piece ∷ pieces) = walked_on p layout ts piece pieces (fault_of layout.line layout.widths piece)
+abbrev pub unless_fault : Option LexFault → Result (List Token) LexFault → Result (List Token) LexFault
+unless_fault (Some f) tokens = Err f
+unless_fault None tokens = tokens
 
-  pub walked_on : Place → Layout → List Token → Piece → List Piece → Option LexFault → Result (List Token) LexFault
-  walked_on p layout ts piece pieces (Some f) = Err f
-  walked_on p layout ts piece pieces None = walked p (next_layout layout piece) (ts ++ tokens_of layout piece piece.shape) pieces
+-- the tokens so far and those of the pieces, or the first fault
+abbrev pub walked : Place → Layout → List Token → List Piece → Result (List Token) LexFault
+walked p layout ts [] = Ok (ts ++ closing_of layout p)
+walked p layout ts (piece ∷ pieces) = unless_fault (fault_of layout.line layout.widths piece) (walked p (next_layout layout piece) (ts ++ tokens_of layout piece piece.shape) pieces)
 
 -- a name's bytes are UTF-8
 abbrev pub IsTextName : Piece → Type 0
 IsTextName piece = (name : List ℕ) → piece.shape ≡ shapes.Whole (forms.Name name) → IsUtf8 name
+
+abbrev pub AreTextNames : List Piece → Type 0
+AreTextNames [] = Unit {0}
+AreTextNames (piece ∷ pieces) = IsTextName piece × AreTextNames pieces

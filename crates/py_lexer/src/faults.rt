@@ -6,6 +6,7 @@ ghost use Rattle.unicode_normalization.specs.declared.Form.{Form};
 ghost use Rattle.py_lexer.specs.Walk.{
   begins_token,
   begins_as_name,
+  dedent_fault,
   front_fault,
   name_fault,
   shape_fault,

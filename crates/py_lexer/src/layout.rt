@@ -8,6 +8,7 @@ ghost use Rattle.py_lexer.specs.Walk.{
   left_of,
   turn_tokens,
   turn_widths,
+  past_other,
   past_number,
   past_tab,
   past_comment,
@@ -69,24 +70,17 @@ impl Layout {
         requires { self.old.brackets + 1 < 2 ^ 32 }
         ensures tokens { OnOk result (tokens.new.items ≡ tokens.old.items ++ tokens_of self.old piece piece.shape) }
         ensures layout { OnOk result (self.new ≡ next_layout self.old piece) }
+        ensures few { OnOk result (self.new.brackets ≤ self.old.brackets + 1) }
     {
-        match piece.shape {
-            Shape::Whole(form) => {
-                let token = Token {
-                    place: piece.place,
-                    end: piece.end,
-                    form,
-                };
-                self.take_token(token, tokens)?;
+        let Piece { place, end, shape } = piece;
+        match shape {
+            Shape::Whole(form) => self.take_token(Token { place, end, form }, tokens),
+            Shape::LineEnd => self.take_line_end(tokens),
+            other => {
+                self.line = past_other(&other, self.line, place, end);
+                Ok(())
             }
-            Shape::LargeNumber => self.line = LineFront::Number(piece.end),
-            Shape::Space => self.line = past_number(self.line),
-            Shape::Tab => self.line = past_tab(self.line, piece.place),
-            Shape::Comment => self.line = past_comment(self.line),
-            Shape::LineEnd => self.take_line_end(tokens)?,
-            _ => self.line = LineFront::Behind(piece.end),
         }
-        Ok(())
     }
 }
 
@@ -97,6 +91,7 @@ impl Layout {
         ensures line { OnOk result (self.new.line ≡ past_form token.form token.end) }
         ensures brackets { OnOk result (self.new.brackets ≡ brackets_behind token.form self.old.brackets) }
         ensures widths { OnOk result (self.new.widths ≡ form_widths (line_of self.old.line) self.old.widths token.place) }
+        ensures few { OnOk result (self.new.brackets ≤ self.old.brackets + 1) }
     {
         if !has_token(self.line) {
             turn(&mut self.widths, token.place, tokens)?;
@@ -148,6 +143,19 @@ fn token_at(place: Place, form: TokenForm) -> Token
         place,
         end: place,
         form,
+    }
+}
+
+// The line behind a piece that is no token and no end of a line.
+fn past_other(shape: &Shape, line: LineFront, place: Place, end: Place) -> LineFront
+    ensures { result ≡ past_other shape.now line place end }
+{
+    match shape {
+        Shape::Space => past_number(line),
+        Shape::Tab => past_tab(line, place),
+        Shape::Comment => past_comment(line),
+        Shape::LargeNumber => LineFront::Number(end),
+        _ => LineFront::Behind(end),
     }
 }
 

@@ -3,6 +3,7 @@
 
 mod faults;
 mod layout;
+mod lex;
 mod places;
 mod widths;
 mod words;

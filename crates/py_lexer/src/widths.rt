@@ -30,7 +30,6 @@ impl Widths {
     }
 
     /// The newest width, or 0 if none is open.
-    #[tactic(auto, using(crate::proofs::OpenWidths::newest_reverse))]
     pub fn newest(&self) -> u32
         ensures { result ≡ newest self.now }
     {

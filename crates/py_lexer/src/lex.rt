@@ -1,0 +1,30 @@
+// The tokens of a text.
+ghost use Rattle.std.specs.Prelude.{◌≡◌, ◌+◌, ◌<◌, ◌^◌, [], length, Ok, Err, IfOk, IfErr};
+ghost use Rattle.py_tokens.specs.LineLayout.{end_place};
+ghost use Rattle.py_lexer.specs.Walk.{first_layout, walked, AreTextNames};
+
+use crate::faults::fault_at;
+use crate::layout::Layout;
+use py_base::Place;
+use py_tokens::{LexFault, Piece, Token};
+use std::alloc::Global;
+
+// The tokens of pieces, or their first fault.
+fn lay_out(alloc: Global, pieces: Vec<Piece>, place: Place) -> Result<Vec<Token>, LexFault>
+    requires names { AreTextNames pieces.items }
+    requires few { length pieces.items + 1 < 2 ^ 32 }
+    requires end { (end_place place).line < 2 ^ 32 }
+    ensures ok { IfOk result (λ tokens. walked place first_layout [] pieces.items ≡ Ok tokens.items) }
+    ensures err { IfErr result (λ fault. ¬ (fault ≡ LexFault.OutOfMemory) → walked place first_layout [] pieces.items ≡ Err fault) }
+{
+    let mut tokens = Vec::new(alloc);
+    let mut layout = Layout::first(alloc)?;
+    'pieces: for piece in pieces {
+        if let Some(fault) = fault_at(alloc, &layout, &piece)? {
+            return Err(fault);
+        }
+        layout.take(piece, &mut tokens)?;
+    }
+    layout.finish(place, &mut tokens)?;
+    Ok(tokens)
+}
