@@ -2,4 +2,5 @@ pub mod CharacterCount
 pub mod Forms
 pub mod LongestWord
 pub mod OpenWidths
+pub mod Turning
 pub mod Walks
