@@ -1,5 +1,6 @@
 pub mod CharacterCount
 pub mod Forms
+pub mod Laying
 pub mod LongestWord
 pub mod OpenWidths
 pub mod Turning

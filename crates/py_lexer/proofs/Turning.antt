@@ -30,7 +30,7 @@ less a b h = (Decides-ltb a b).0 h
 pub not_less : (a b : ℕ) → nat_lt a b ≡ false → b ≤ a
 not_less a b h = let k : ¬ (a < b) = not_from_Decides (nat_lt a b) (Decides-ltb a b) h in omega arith
 
-same_number : (a b : ℕ) → (a == b) ≡ true → a ≡ b
+pub same_number : (a b : ℕ) → (a == b) ≡ true → a ≡ b
 same_number a b h = (Decides-eqb a b).0 h
 
 is_same : (a b : ℕ) → a ≡ b → (a == b) ≡ true
@@ -39,6 +39,12 @@ is_same a b h = (Decides-eqb a b).1 h
 other_by : (t : Bool) (a b : ℕ) → (a == b) ≡ t → b < a → (a == b) ≡ false
 other_by true a b e h = let k : a ≡ b = same_number a b e in absurd (omega arith)
 other_by false a b e h = e
+
+zero_by : (a : ℕ) → (a == 0) ≡ false → a ≡ 0 → ⊥
+zero_by a h e = let k : (a == 0) ≡ true = is_same a 0 e in cc
+
+pub not_zero : (a : ℕ) → (a == 0) ≡ false → 0 < a
+not_zero a h = let k : ¬ (a ≡ 0) = zero_by a h in omega arith
 
 not_same : (a b : ℕ) → b < a → (a == b) ≡ false
 not_same a b h = other_by (a == b) a b refl h
