@@ -1,4 +1,5 @@
 pub mod CharacterCount
+pub mod FirstOfPiece
 pub mod Forms
 pub mod Laying
 pub mod LongestWord
