@@ -157,3 +157,94 @@ is_one_by line ws p e shape f (inr h) = inr (shape_is p shape f h.1)
 
 pub is_one : (line : LineFront) (ws : List ℕ) (p e : Place) (shape : Shape) (f : LexFault) → fault_of line ws (piece_of p e shape) ≡ Some f → NowFault line ws p shape f
 is_one line ws p e shape f h = is_one_by line ws p e shape f (first_some _ _ f h)
+
+-- where a fault of the piece by itself stands, and from which rank on
+abbrev pub StandsFrom : Place → ℕ → LexFault → Type 0
+StandsFrom p n g = ((p ≡ place_of g) × (n ≤ rank_of g)) ⊎ Precedes p (place_of g)
+
+shape_stands : (p : Place) (shape : Shape) (g : LexFault) → ((q : Place) → shape ≡ shapes.BadEscape q → Precedes p q) → ShapeNow p shape g → StandsFrom p 2 g
+shape_stands p shape _ within (now_stray e) = inl (refl, omega arith)
+shape_stands p shape _ within (now_escape q e) = inr (within q e)
+shape_stands p shape _ within (now_unclosed e) = inl (refl, omega arith)
+shape_stands p shape _ within (now_large e) = inl (refl, omega arith)
+shape_stands p shape _ within (now_long name e l) = inl (refl, omega arith)
+shape_stands p shape _ within (now_other_form name e l) = inl (refl, omega arith)
+
+token_stands : (p : Place) (shape : Shape) (g : LexFault) → ((q : Place) → shape ≡ shapes.BadEscape q → Precedes p q) → begins_token shape ≡ true → ShapeNow p shape g → StandsFrom p 5 g
+token_stands p shape _ within b (now_stray e) = let k : false ≡ true = sym (ap begins_token e) ∙ b in absurd cc
+token_stands p shape _ within b (now_escape q e) = inr (within q e)
+token_stands p shape _ within b (now_unclosed e) = inl (refl, omega arith)
+token_stands p shape _ within b (now_large e) = inl (refl, omega arith)
+token_stands p shape _ within b (now_long name e l) = inl (refl, omega arith)
+token_stands p shape _ within b (now_other_form name e l) = inl (refl, omega arith)
+
+from_rank : (f g : LexFault) (p : Place) (n : ℕ) → place_of f ≡ p → rank_of f ≤ n → StandsFrom p n g → IsNotAfter f g
+from_rank f g p n at r (inl h) = by_rank (at ∙ h.0) (omega (arith, h.1))
+from_rank f g p n at r (inr h) = before_not_after f g (subst (λ (q : Place). Precedes q (place_of g)) (sym at) h)
+
+from_place : (f g : LexFault) (p : Place) (n : ℕ) → Precedes (place_of f) p → StandsFrom p n g → IsNotAfter f g
+from_place f g p n h (inl k) = before_not_after f g (subst (Precedes (place_of f)) k.0 h)
+from_place f g p n h (inr k) = before_not_after f g (precedes_trans (place_of f) p (place_of g) h k)
+
+-- the places in front of a piece and in it
+pub record InOrder (line : LineFront) (p : Place) (shape : Shape) : Type 0 where
+  pub tab_in_front : (q : Place) → line ≡ fronts.Tab q → Precedes q p
+  pub escape_behind : (q : Place) → shape ≡ shapes.BadEscape q → Precedes p q
+
+dedent_is_first : (line : LineFront) (ws : List ℕ) (p : Place) (shape : Shape) (g : LexFault) → InOrder line p shape → begins_token shape ≡ true → ((q : Place) → line ≡ fronts.Tab q → ⊥) → ((q : Place) → line ≡ fronts.Number q → ⊥) → NowFault line ws p shape g → IsNotAfter (faults.BadDedent p) g
+dedent_is_first line ws p shape _ order b tab number (inl (now_number q l c)) = absurd (number q l)
+dedent_is_first line ws p shape _ order b tab number (inl (now_tab q l c)) = absurd (tab q l)
+dedent_is_first line ws p shape _ order b tab number (inl (now_dedent l c n)) = same_not_after _ _ refl
+dedent_is_first line ws p shape g order b tab number (inr now) = from_rank (faults.BadDedent p) g p 5 refl (omega arith) (token_stands p shape g order.escape_behind b now)
+
+tab_is_first : (q : Place) (ws : List ℕ) (p : Place) (shape : Shape) (g : LexFault) → InOrder (fronts.Tab q) p shape → NowFault (fronts.Tab q) ws p shape g → IsNotAfter (faults.TabInIndent q) g
+tab_is_first q ws p shape _ order (inl (now_number r l c)) = absurd cc
+tab_is_first q ws p shape _ order (inl (now_tab r l c)) = same_not_after _ _ cc
+tab_is_first q ws p shape _ order (inl (now_dedent l c n)) = before_not_after (faults.TabInIndent q) (faults.BadDedent p) (order.tab_in_front q refl)
+tab_is_first q ws p shape g order (inr now) = from_place (faults.TabInIndent q) g p 2 (order.tab_in_front q refl) (shape_stands p shape g order.escape_behind now)
+
+number_is_first : (q : Place) (ws : List ℕ) (p : Place) (shape : Shape) (g : LexFault) → InOrder (fronts.Number q) p shape → NowFault (fronts.Number q) ws p shape g → IsNotAfter (faults.BadCharacter p) g
+number_is_first q ws p shape _ order (inl (now_number r l c)) = same_not_after _ _ refl
+number_is_first q ws p shape _ order (inl (now_tab r l c)) = absurd cc
+number_is_first q ws p shape _ order (inl (now_dedent l c n)) = absurd cc
+number_is_first q ws p shape g order (inr now) = from_rank (faults.BadCharacter p) g p 2 refl (omega arith) (shape_stands p shape g order.escape_behind now)
+
+front_first : (line : LineFront) (ws : List ℕ) (p e : Place) (shape : Shape) (f g : LexFault) → InOrder line p shape → front_fault line ws (piece_of p e shape) ≡ Some f → NowFault line ws p shape g → IsNotAfter f g
+front_first fronts.Spaces ws p e shape f g order h now = let (x, y, z) = dedent_first _ _ _ _ h in subst (λ (k : LexFault). IsNotAfter k g) z (dedent_is_first fronts.Spaces ws p shape g order x (λ q l. cc) (λ q l. cc) now)
+front_first (fronts.Tab q) ws p e shape f g order h now = let (x, z) = some_if _ _ _ h in subst (λ (k : LexFault). IsNotAfter k g) z (tab_is_first q ws p shape g order now)
+front_first fronts.Comment ws p e shape f g order h now = let (x, y, z) = dedent_first _ _ _ _ h in subst (λ (k : LexFault). IsNotAfter k g) z (dedent_is_first fronts.Comment ws p shape g order x (λ q l. cc) (λ q l. cc) now)
+front_first (fronts.Number q) ws p e shape f g order h now = let (x, z) = some_if _ _ _ h in subst (λ (k : LexFault). IsNotAfter k g) z (number_is_first q ws p shape g order now)
+front_first (fronts.Behind q) ws p e shape f g order h now = absurd cc
+
+name_first : (a b : Bool) (p : Place) (name : List ℕ) (f : LexFault) → nat_lt 255 (length name) ≡ a → cond a (Some (faults.NameTooLong p)) (cond b None (Some (faults.NameNotNfkc p))) ≡ Some f → (f ≡ faults.NameTooLong p) ⊎ ((f ≡ faults.NameNotNfkc p) × (length name ≤ 255))
+name_first true b p name f x h = inl cc
+name_first false true p name f x h = absurd cc
+name_first false false p name f x h = inr (cc, not_less 255 (length name) x)
+
+found_in_name : (p : Place) (shape : Shape) (name : List ℕ) (f : LexFault) → shape_fault p shape ≡ Some f → shape ≡ shapes.Whole (forms.Name name) → (f ≡ faults.NameTooLong p) ⊎ ((f ≡ faults.NameNotNfkc p) × (length name ≤ 255))
+found_in_name p shape name f h e = name_first (nat_lt 255 (length name)) (is_in_form normal.Nfkc (chars name)) p name f refl (sym (ap (shape_fault p) e) ∙ h)
+
+long_by : (f : LexFault) (p : Place) (name : List ℕ) → 255 < length name → (f ≡ faults.NameTooLong p) ⊎ ((f ≡ faults.NameNotNfkc p) × (length name ≤ 255)) → IsNotAfter f (faults.NameTooLong p)
+long_by f p name l (inl k) = same_not_after _ _ k
+long_by f p name l (inr k) = let m : length name ≤ 255 = k.1 in absurd (omega arith)
+
+other_by : (f : LexFault) (p : Place) (name : List ℕ) → (f ≡ faults.NameTooLong p) ⊎ ((f ≡ faults.NameNotNfkc p) × (length name ≤ 255)) → IsNotAfter f (faults.NameNotNfkc p)
+other_by f p name (inl k) = by_rank (ap place_of k) (omega (arith, ap rank_of k))
+other_by f p name (inr k) = same_not_after _ _ k.0
+
+shape_first : (p : Place) (shape : Shape) (f g : LexFault) → shape_fault p shape ≡ Some f → ShapeNow p shape g → IsNotAfter f g
+shape_first p shape f _ h (now_stray e) = let k : Some (faults.BadCharacter p) ≡ Some f = sym (ap (shape_fault p) e) ∙ h in same_not_after _ _ cc
+shape_first p shape f _ h (now_escape q e) = let k : Some (faults.BadCharacter q) ≡ Some f = sym (ap (shape_fault p) e) ∙ h in same_not_after _ _ cc
+shape_first p shape f _ h (now_unclosed e) = let k : Some (faults.OpenString p) ≡ Some f = sym (ap (shape_fault p) e) ∙ h in same_not_after _ _ cc
+shape_first p shape f _ h (now_large e) = let k : Some (faults.LiteralTooLarge p) ≡ Some f = sym (ap (shape_fault p) e) ∙ h in same_not_after _ _ cc
+shape_first p shape f _ h (now_long name e l) = long_by f p name l (found_in_name p shape name f h e)
+shape_first p shape f _ h (now_other_form name e l) = other_by f p name (found_in_name p shape name f h e)
+
+is_first_by : (line : LineFront) (ws : List ℕ) (p e : Place) (shape : Shape) (f g : LexFault) → InOrder line p shape → (front_fault line ws (piece_of p e shape) ≡ Some f) ⊎ ((front_fault line ws (piece_of p e shape) ≡ None) × (shape_fault p shape ≡ Some f)) → NowFault line ws p shape g → IsNotAfter f g
+is_first_by line ws p e shape f g order (inl h) now = front_first line ws p e shape f g order h now
+is_first_by line ws p e shape f g order (inr h) (inl now) = absurd (front_silent line ws p e shape g h.0 now)
+is_first_by line ws p e shape f g order (inr h) (inr now) = shape_first p shape f g h.1 now
+
+-- the fault that is found at a piece is not after any of its faults
+pub is_first : (line : LineFront) (ws : List ℕ) (p e : Place) (shape : Shape) (f g : LexFault) → InOrder line p shape → fault_of line ws (piece_of p e shape) ≡ Some f → NowFault line ws p shape g → IsNotAfter f g
+is_first line ws p e shape f g order h now = is_first_by line ws p e shape f g order (first_some _ _ f h) now
