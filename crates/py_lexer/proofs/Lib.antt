@@ -4,5 +4,8 @@ pub mod Forms
 pub mod Laying
 pub mod LongestWord
 pub mod OpenWidths
+pub mod OwnFaults
+pub mod PieceEnds
+pub mod Splits
 pub mod Turning
 pub mod Walks
