@@ -2,6 +2,7 @@ pub mod CharacterCount
 pub mod FirstOfPiece
 pub mod Forms
 pub mod Laying
+pub mod LineFronts
 pub mod LongestWord
 pub mod OpenWidths
 pub mod OwnFaults
