@@ -27,14 +27,14 @@ between line brackets ws = record { line = line; brackets = brackets; widths = w
 same_line : (l m : Line) (brackets : ℕ) (ws : List ℕ) → l ≡ m → between l brackets ws ≡ between m brackets ws
 same_line l m brackets ws h = ap (λ x. between x brackets ws) h
 
-number_line : (line : LineFront) → line_of (past_number line) ≡ line_of line
+pub number_line : (line : LineFront) → line_of (past_number line) ≡ line_of line
 number_line fronts.Spaces = refl
 number_line (fronts.Tab p) = refl
 number_line fronts.Comment = refl
 number_line (fronts.Number e) = refl
 number_line (fronts.Behind e) = refl
 
-tab_line : (line : LineFront) (p : Place) → line_of (past_tab line p) ≡ line_of line
+pub tab_line : (line : LineFront) (p : Place) → line_of (past_tab line p) ≡ line_of line
 tab_line fronts.Spaces p = refl
 tab_line (fronts.Tab q) p = refl
 tab_line fronts.Comment p = refl

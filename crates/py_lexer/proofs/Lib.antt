@@ -1,9 +1,11 @@
 pub mod CharacterCount
+pub mod Contexts
 pub mod FirstOfPiece
 pub mod Forms
 pub mod Laying
 pub mod LineFronts
 pub mod LongestWord
+pub mod OpenTests
 pub mod OpenWidths
 pub mod OwnFaults
 pub mod PieceEnds

@@ -27,13 +27,16 @@ or_cases false b h f = h
 pub less : (a b : ℕ) → nat_lt a b ≡ true → a < b
 less a b h = (Decides-ltb a b).0 h
 
+pub is_less : (a b : ℕ) → a < b → nat_lt a b ≡ true
+is_less a b h = (Decides-ltb a b).1 h
+
 pub not_less : (a b : ℕ) → nat_lt a b ≡ false → b ≤ a
 not_less a b h = let k : ¬ (a < b) = not_from_Decides (nat_lt a b) (Decides-ltb a b) h in omega arith
 
 pub same_number : (a b : ℕ) → (a == b) ≡ true → a ≡ b
 same_number a b h = (Decides-eqb a b).0 h
 
-is_same : (a b : ℕ) → a ≡ b → (a == b) ≡ true
+pub is_same : (a b : ℕ) → a ≡ b → (a == b) ≡ true
 is_same a b h = (Decides-eqb a b).1 h
 
 other_by : (t : Bool) (a b : ℕ) → (a == b) ≡ t → b < a → (a == b) ≡ false
@@ -46,7 +49,7 @@ zero_by a h e = let k : (a == 0) ≡ true = is_same a 0 e in cc
 pub not_zero : (a : ℕ) → (a == 0) ≡ false → 0 < a
 not_zero a h = let k : ¬ (a ≡ 0) = zero_by a h in omega arith
 
-not_same : (a b : ℕ) → b < a → (a == b) ≡ false
+pub not_same : (a b : ℕ) → b < a → (a == b) ≡ false
 not_same a b h = other_by (a == b) a b refl h
 
 open_step : (b : Bool) (w width : ℕ) (rest : Bool) → (w == width) ≡ b → (b || rest) ≡ true → (rest ≡ true → width ≤ w) → width ≤ w
