@@ -48,7 +48,7 @@ comment_line fronts.Comment = refl
 comment_line (fronts.Number e) = refl
 comment_line (fronts.Behind e) = refl
 
-form_line : (form : TokenForm) (e : Place) → Behind e ≡ line_of (past_form form e)
+pub form_line : (form : TokenForm) (e : Place) → Behind e ≡ line_of (past_form form e)
 form_line (forms.Name name) e = refl
 form_line (forms.Key k) e = refl
 form_line (forms.Number n) e = refl
