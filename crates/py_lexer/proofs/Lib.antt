@@ -2,6 +2,7 @@ pub mod CharacterCount
 pub mod Contexts
 pub mod FirstOfPiece
 pub mod Forms
+pub mod Judging
 pub mod Laying
 pub mod LineFronts
 pub mod LongestWord
