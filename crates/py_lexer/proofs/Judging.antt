@@ -1,7 +1,7 @@
 -- The pass over the pieces of a text gives its tokens or its first fault.
 use Rattle.std.specs.Prelude.{All, length}
 use Rattle.std.proofs.Common.{ℕ, ◌≡◌, ◌<◌, ◌≤◌, ◌+◌, ◌⊎◌, inl, inr, Bool, true, false, List, [], ◌∷◌, ◌++◌, refl, sym, ap, ◌∙◌, subst, arith, append_assoc, append-nil, Option, Some, None, Result, Ok, Err}
-use Rattle.std.proofs.lemmas.List.Elements.{All-head, All-tail}
+use Rattle.std.proofs.lemmas.List.Elements.{All-nil, All-head, All-tail}
 use Rattle.py_base.specs.declared.Place.{Place}
 use Rattle.py_tokens.specs.declared.Token.{Token}
 use Rattle.py_tokens.specs.declared.Piece.{Piece}
@@ -140,3 +140,114 @@ later_fault whole done m rest tail before piece x e cs _ all cut t d other (own_
 later_fault whole done m rest tail before piece x e cs _ all cut t d other (own_large s) = later_place m rest x e cs (subst (CutInto e cs) t cut)
 later_fault whole done m rest tail before piece x e cs _ all cut t d other (own_other_form name s l) = later_place m rest x e cs (subst (CutInto e cs) t cut)
 later_fault whole done m rest tail before piece x e cs _ all cut t d other (own_long name s l) = later_place m rest x e cs (subst (CutInto e cs) t cut)
+
+first_by : (bytes : List ℕ) (done rest : List Piece) (piece : Piece) (out : List Token) (layout : Layout) (place : Place) (left : List ℕ) (f g : LexFault) → Clean bytes done (piece ∷ rest) out layout place left → fault_of layout.line layout.widths piece ≡ Some f
+  → (before behind : List Piece) (x : Piece) → done ++ piece ∷ rest ≡ before ++ x ∷ behind → OwnFault before x g → Apart before x behind done piece rest → IsNotAfter f g
+first_by bytes done rest piece out layout place left f g clean found before behind x e own (inl (k, c, b)) = absurd (clean.none before k x g c own)
+first_by bytes done rest piece out layout place left f g clean found before behind x e own (inr (inl (a, same, b))) =
+    let there : OwnFault done piece g = subst (λ (y : Piece). OwnFault done y g) same (subst (λ (ps : List Piece). OwnFault ps x g) a own) in
+    let now : NowFault layout.line layout.widths piece.place piece.shape g = own_now (text_characters bytes) done (piece ∷ rest) out layout piece g (passed_of bytes done (piece ∷ rest) out layout place left clean) there in
+    is_first layout.line layout.widths piece.place piece.end piece.shape f g (in_order bytes done rest piece out layout place left clean) found now
+first_by bytes done rest piece out layout place left f g clean found before behind x e own (inr (inr (k, a, d))) =
+    let (front, after_it, split, is, at, ends, on) = clean.cut in
+    let now : NowFault layout.line layout.widths piece.place piece.shape f = is_one layout.line layout.widths piece.place piece.end piece.shape f found in
+    let all : CutInto text_start (text_characters bytes) (before ++ x ∷ behind) = subst (CutInto text_start (text_characters bytes)) e clean.whole.1 in
+    let later : IsFrom piece.end (place_of g) = later_fault (text_characters bytes) done k behind rest before piece x piece.end after_it g all on d a (not_blank layout.line layout.widths piece.place piece.shape f now) own in
+    before_not_after f g (from_behind (place_of f) piece.end (place_of g) (found_ends bytes done rest piece out layout place left f clean now) later)
+
+first_found : (bytes : List ℕ) (done rest : List Piece) (piece : Piece) (out : List Token) (layout : Layout) (place : Place) (left : List ℕ) (f : LexFault) → Clean bytes done (piece ∷ rest) out layout place left → fault_of layout.line layout.widths piece ≡ Some f → IsFirstFault bytes f
+first_found bytes done rest piece out layout place left f clean found =
+    let (front, behind, split, is, at, ends, on) = clean.cut in
+    let now : NowFault layout.line layout.widths piece.place piece.shape f = is_one layout.line layout.widths piece.place piece.end piece.shape f found in
+    let own : OwnFault done piece f = now_own done place layout piece front behind f clean.shows is (λ h. (out, clean.laid, h)) now in
+    ( has_own bytes done rest piece f clean.whole own
+    , λ g h.
+        let (before, more, x, e, at_x) = owned bytes (done ++ piece ∷ rest) g clean.whole h in
+        first_by bytes done rest piece out layout place left f g clean found before more x e at_x (apart before x more done piece rest (sym e))
+    )
+
+nothing_left : (k more : List Piece) (x : Piece) → [] ≡ k ++ x ∷ more → ⊥
+nothing_left [] more x e = cc
+nothing_left (y ∷ k) more x e = cc
+
+none_by : (bytes : List ℕ) (done rest : List Piece) (piece : Piece) (out : List Token) (layout : Layout) (place : Place) (left : List ℕ) → Clean bytes done (piece ∷ rest) out layout place left → fault_of layout.line layout.widths piece ≡ None
+  → (before more : List Piece) (x : Piece) (g : LexFault) → OwnFault before x g → Apart before x more done piece [] → ⊥
+none_by bytes done rest piece out layout place left clean none before more x g own (inl (k, c, b)) = clean.none before k x g c own
+none_by bytes done rest piece out layout place left clean none before more x g own (inr (inl (a, same, b))) =
+    let there : OwnFault done piece g = subst (λ (y : Piece). OwnFault done y g) same (subst (λ (ps : List Piece). OwnFault ps x g) a own) in
+    has_none layout.line layout.widths piece.place piece.end piece.shape g none (own_now (text_characters bytes) done (piece ∷ rest) out layout piece g (passed_of bytes done (piece ∷ rest) out layout place left clean) there)
+none_by bytes done rest piece out layout place left clean none before more x g own (inr (inr (k, a, d))) = nothing_left k more x d
+
+laid_one : (bytes : List ℕ) (done rest : List Piece) (piece : Piece) (out : List Token) (layout : Layout) (place : Place) (left : List ℕ) → Clean bytes done (piece ∷ rest) out layout place left → fault_of layout.line layout.widths piece ≡ None
+  → LaidOut before_all (done ++ piece ∷ []) (out ++ tokens_of layout piece piece.shape) (between_of (next_layout layout piece))
+laid_one bytes done rest piece out layout place left clean none =
+    let ts : List Token = tokens_of layout piece piece.shape in
+    let next : Between = between_of (next_layout layout piece) in
+    let lays : Lays (between_of layout) piece ts next = (is_laid layout piece clean.stands none).0 in
+    let one : LaidOut (between_of layout) (piece ∷ []) ts next = (ts, [], next, sym (append-nil ts), lays, (refl, refl)) in
+    laid_together done (piece ∷ []) before_all (between_of layout) next out ts clean.laid one
+
+goes_on_clean : (bytes : List ℕ) (done rest : List Piece) (piece : Piece) (out : List Token) (layout : Layout) (place : Place) (left front behind : List ℕ) → Clean bytes done (piece ∷ rest) out layout place left → fault_of layout.line layout.widths piece ≡ None
+  → IsPiece place front behind piece.shape → piece.place ≡ place → piece.end ≡ after place front → CutInto piece.end behind rest
+  → Clean bytes (done ++ piece ∷ []) rest (out ++ tokens_of layout piece piece.shape) (next_layout layout piece) piece.end behind
+goes_on_clean bytes done rest piece out layout place left front behind clean none is at ends on =
+    let laid : LaidOut before_all (done ++ piece ∷ []) (out ++ tokens_of layout piece piece.shape) (between_of (next_layout layout piece)) = laid_one bytes done rest piece out layout place left clean none in
+    record {
+      whole = subst (PiecesOf bytes) (sym (append_assoc done (piece ∷ []) rest)) clean.whole;
+      cut = on;
+      laid = laid;
+      ran = ap (λ l. next_layout l piece) clean.ran ∙ sym (after_append done (piece ∷ []) first_layout);
+      stands = (is_laid layout piece clean.stands none).1;
+      shows = shows_next piece.shape done place layout piece front behind refl at is ends (λ h. (between_of (next_layout layout piece), (out ++ tokens_of layout piece piece.shape, laid, h))) clean.shows;
+      none = λ before more x g e own. none_by bytes done rest piece out layout place left clean none before more x g own (apart before x more done piece [] (sym e));
+    }
+
+-- what the pass says of a text
+abbrev pub Judges : List ℕ → Result (List Token) LexFault → Type 0
+Judges bytes (Ok ts) = Tokens bytes ts
+Judges bytes (Err f) = IsFirstFault bytes f
+
+no_fault_at_end : (bytes : List ℕ) (done : List Piece) (out : List Token) (layout : Layout) (place : Place) (left : List ℕ) → Clean bytes done [] out layout place left → (f : LexFault) → HasFault bytes f → ⊥
+no_fault_at_end bytes done out layout place left clean f h =
+    let (before, more, x, e, own) = owned bytes (done ++ []) f clean.whole h in
+    clean.none before more x f (sym (append-nil done) ∙ e) own
+
+judged_end : (bytes : List ℕ) (done : List Piece) (out : List Token) (layout : Layout) (place p : Place) (left : List ℕ) → Clean bytes done [] out layout place left → p ≡ after text_start (text_characters bytes) → Tokens bytes (out ++ closing_of layout p)
+judged_end bytes done out layout place p left clean at = record {
+  pieces = done;
+  laid = out;
+  last = between_of layout;
+  closing = closing_of layout p;
+  no_fault = no_fault_at_end bytes done out layout place left clean;
+  cut = subst (PiecesOf bytes) (append-nil done) clean.whole;
+  layout = clean.laid;
+  ends = subst (λ (q : Place). EndsWith (between_of layout) q (closing_of layout p)) at (dedents_of (end_place p) 0 layout.widths, left_of 0 layout.widths, closes_all (end_place p) layout.widths clean.stands, refl);
+  all = refl;
+}
+
+judged_one : (bytes : List ℕ) (o : Option LexFault) (r : Result (List Token) LexFault) → ((f : LexFault) → o ≡ Some f → IsFirstFault bytes f) → (o ≡ None → Judges bytes r) → Judges bytes (unless_fault o r)
+judged_one bytes (Some f) r found none = found f refl
+judged_one bytes None r found none = none refl
+
+judged : (rest : List Piece) (bytes : List ℕ) (done : List Piece) (out : List Token) (layout : Layout) (place p : Place) (left : List ℕ) → Clean bytes done rest out layout place left → p ≡ after text_start (text_characters bytes) → Judges bytes (walked p layout out rest)
+judged [] bytes done out layout place p left clean at = judged_end bytes done out layout place p left clean at
+judged (piece ∷ rest) bytes done out layout place p left clean at =
+    let (front, behind, split, is, begins, ends, on) = clean.cut in
+    judged_one bytes (fault_of layout.line layout.widths piece) (walked p (next_layout layout piece) (out ++ tokens_of layout piece piece.shape) rest)
+      (λ f h. first_found bytes done rest piece out layout place left f clean h)
+      (λ h. judged rest bytes (done ++ piece ∷ []) (out ++ tokens_of layout piece piece.shape) (next_layout layout piece) piece.end p behind (goes_on_clean bytes done rest piece out layout place left front behind clean h is begins ends on) at)
+
+clean_first : (bytes : List ℕ) (pieces : List Piece) → PiecesOf bytes pieces → Clean bytes [] pieces [] first_layout text_start (text_characters bytes)
+clean_first bytes pieces whole = record {
+  whole = whole;
+  cut = whole.1;
+  laid = (refl, refl);
+  ran = refl;
+  stands = refl;
+  shows = shows_spaces [] [] before_all refl ([], (refl, refl), refl) (All-nil IsSpace) refl;
+  none = λ before more x g e own. nothing_left before more x e;
+}
+
+-- The pass over the pieces of a text gives its tokens, or its first fault.
+pub walk_judges : (bytes : List ℕ) (pieces : List Piece) (p : Place) → PiecesOf bytes pieces → p ≡ after text_start (text_characters bytes) → Judges bytes (walked p first_layout [] pieces)
+walk_judges bytes pieces p whole at = judged pieces bytes [] [] first_layout text_start p (text_characters bytes) (clean_first bytes pieces whole) at
