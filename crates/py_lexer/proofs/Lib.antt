@@ -11,5 +11,6 @@ pub mod OpenWidths
 pub mod OwnFaults
 pub mod PieceEnds
 pub mod Splits
+pub mod TextBounds
 pub mod Turning
 pub mod Walks
