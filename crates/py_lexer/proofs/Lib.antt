@@ -1,2 +1,9 @@
+pub mod Begins
 pub mod CharacterCount
+pub mod Keywords
+pub mod LongestComment
+pub mod LongestMark
+pub mod LongestNumber
 pub mod LongestWord
+pub mod StringParts
+pub mod StringWhole

@@ -1,0 +1,2 @@
+pub mod LongestForms
+pub mod StringReading
