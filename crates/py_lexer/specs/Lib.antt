@@ -1,2 +1,3 @@
 pub mod LongestForms
+pub mod PieceForms
 pub mod StringReading

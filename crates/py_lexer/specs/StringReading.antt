@@ -1,9 +1,9 @@
 -- Words of the contracts of what reads a string.
-use Rattle.std.specs.Prelude.{ℕ, ◌≡◌, ◌≤◌, ◌<◌, List, [], ◌∷◌, ◌++◌, length, take, drop, Option, None, Some, encode_utf8_all}
+use Rattle.std.specs.Prelude.{ℕ, ◌≡◌, List, [], ◌∷◌, ◌++◌, length, Option, None, Some, encode_utf8_all}
 use Rattle.py_base.specs.declared.Place.{Place}
 use Rattle.py_tokens.specs.declared.Shape.{Shape}
 use Rattle.py_tokens.specs.StringForms.{Quotes, Single, Triple, quote_text, BeginsWith, OpensWith, Part, LoneBackslash, part_text, IsEscape, IsPart, GoesOn, StandsFor}
-use Rattle.py_tokens.specs.TextPieces.{IsPiece}
+use Rattle.py_lexer.specs.PieceForms.{StandsAt}
 use Rattle.py_lexer.specs.declared.strings.Opening.{Opening}
 use Rattle.py_lexer.specs.declared.strings.Opening.TheVariants as openings
 use Rattle.py_lexer.specs.declared.strings.Reading.{Reading}
@@ -38,10 +38,6 @@ HasRead quotes cs bytes rest = (parts : List Part) × (value : List ℕ) × Goes
 -- No parts lead to closing quotes.
 abbrev pub NeverCloses : Quotes → List ℕ → Type 0
 NeverCloses quotes cs = (parts : List Part) (rest : List ℕ) → ¬ GoesOn quotes cs parts (quote_text quotes ++ rest)
-
--- the first n characters are a piece of the shape
-abbrev pub StandsAt : Place → List ℕ → ℕ → Shape → Type 0
-StandsAt p cs n shape = (0 < n) × (n ≤ length cs) × IsPiece p (take n cs) (drop n cs) shape
 
 -- a string in front, if quotes are
 abbrev pub StandsInFront : Place → List ℕ → Option (Shape × ℕ) → Type 0

@@ -4,14 +4,18 @@
 mod comments;
 mod marks;
 mod numbers;
+mod pieces;
 mod places;
+mod string_pieces;
 mod strings;
 mod words;
 
 pub use comments::split_comment;
 pub use marks::split_mark;
 pub use numbers::{split_number, value_of};
+pub use pieces::next_shape;
 pub use places::{TextSpots, characters};
+pub use string_pieces::split_string;
 pub use words::{keyword_of, split_word};
 
 #[cfg(test)]

@@ -117,6 +117,21 @@ fn after_one(place: Place, code: char) -> Place
     }
 }
 
+/// The place just after characters that begin at a place.
+pub fn place_after(place: Place, codes: &[char]) -> Place
+    requires line { place.line + length codes.now < 2 ^ 32 }
+    requires col { place.col + length codes.now < 2 ^ 32 }
+    ensures { result ≡ after place codes.now }
+{
+    let mut end = place;
+    let mut rest = codes;
+    'codes: while let [c, more @ ..] = rest {
+        rest = more;
+        end = after_one(end, *c);
+    }
+    end
+}
+
 fn place_all(alloc: Global, codes: &[char]) -> Result<TextSpots, AllocError>
     requires { length codes.now + 1 < 2 ^ 32 }
     ensures spots { IfOk result (λ found. found.spots.items ≡ placed text_start (with_line_ends codes.now)) }

@@ -3,15 +3,20 @@ ghost use Rattle.std.specs.Prelude.{
   ◌≡◌,
   ◌∷◌,
   [],
+  ◌++◌,
   ◌↔◌,
   ℕ,
   List,
   IsTrue,
+  IfOk,
   MatchOption,
   length,
+  string_bytes,
 };
-ghost use Rattle.py_tokens.specs.StringForms.{Quotes, BeginsWith, IsQuote, OpensWith, IsEscape, FitsLine, quote_text};
-ghost use Rattle.py_lexer.specs.StringReading.{quotes_of, StandsNext, StandsBehindBackslash};
+ghost use Rattle.py_tokens.specs.StringForms.{Quotes, BeginsWith, IsQuote, OpensWith, IsEscape, FitsLine, Part, GoesOn, quote_text};
+ghost use Rattle.py_lexer.specs.StringReading.{quotes_of, StandsNext, StandsBehindBackslash, HasRead, NeverCloses};
+
+use std::alloc::{AllocError, Global};
 
 /// How a string opens.
 #[derive(Clone, Copy, Debug, PartialEq, Eq)]
@@ -42,7 +47,8 @@ pub enum Stop {
     LoneBackslash,
 }
 
-fn opening_of(codes: &[char]) -> Option<Opening>
+/// How the string in front opens.
+pub fn opening_of(codes: &[char]) -> Option<Opening>
     ensures { MatchOption result ((quotes : Quotes) → ¬ OpensWith codes.now quotes) (λ opening. OpensWith codes.now (quotes_of opening)) }
 {
     match codes {
@@ -101,7 +107,8 @@ fn closes(opening: Opening, codes: &[char]) -> bool
     }
 }
 
-fn quotes_len(opening: Opening) -> usize
+/// How many quotes there are on each side.
+pub fn quotes_len(opening: Opening) -> usize
     ensures { result ≡ length (quote_text (quotes_of opening)) }
 {
     match opening {
@@ -163,5 +170,43 @@ fn behind_backslash(codes: &[char]) -> Reading
             None => Reading::Stop(Stop::LoneBackslash),
             Some(value) => Reading::Part(2, value),
         },
+    }
+}
+
+/// The parts in front that stand for characters, as a text, then what is left and why no further
+/// part is read.
+pub fn read_parts(
+    alloc: Global,
+    opening: Opening,
+    codes: &[char],
+) -> Result<(String, &[char], Stop), AllocError>
+    ensures read { IfOk result (λ found. HasRead (quotes_of opening) codes.now (string_bytes found.0) found.1.now) }
+    ensures stop { IfOk result (λ found. StandsNext (quotes_of opening) found.1.now (Reading.Stop found.2)) }
+{
+    let mut text = String::new(alloc);
+    let mut rest = codes;
+    'parts: loop {
+        match next_part(opening, rest) {
+            Reading::Stop(stop) => return Ok((text, rest, stop)),
+            Reading::Part(len, value) => {
+                text.push(value)?;
+                rest = rest.split_at(len).1;
+            }
+        }
+    }
+}
+
+/// What stands behind the closing quotes, if there are any.
+pub fn behind_closing(opening: Opening, codes: &[char]) -> Option<&[char]>
+    ensures { MatchOption result (NeverCloses (quotes_of opening) codes.now) (λ rest. (parts : List Part) × GoesOn (quotes_of opening) codes.now parts (quote_text (quotes_of opening) ++ rest.now)) }
+{
+    let mut rest = codes;
+    'parts: loop {
+        match next_part(opening, rest) {
+            Reading::Stop(Stop::Closing) => return Some(rest.split_at(quotes_len(opening)).1),
+            Reading::Stop(Stop::Unclosed) => return None,
+            Reading::Stop(Stop::LoneBackslash) => rest = rest.split_at(1).1,
+            Reading::Part(len, _) => rest = rest.split_at(len).1,
+        }
     }
 }
