@@ -1,5 +1,5 @@
 -- What some characters begin with.
-use Rattle.std.proofs.Common.{ℕ, ◌≡◌, ◌<◌, ◌≤◌, ◌-◌, refl, ap, arith, List, [], ◌∷◌, ◌++◌, length, take, drop, length-drop, sym, ◌∙◌}
+use Rattle.std.proofs.Common.{ℕ, ◌≡◌, ◌<◌, ◌-◌, refl, ap, arith, List, [], ◌∷◌, ◌++◌, length, take, drop, length-drop, sym, ◌∙◌}
 use Rattle.std.proofs.lemmas.List.{take-append-drop, take_all}
 use Rattle.py_tokens.specs.StringForms.{BeginsWith}
 

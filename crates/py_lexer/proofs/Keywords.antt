@@ -1,5 +1,5 @@
 -- Every keyword is tried.
-use Rattle.std.proofs.Common.{ℕ, ◌≡◌, arith, refl, sym, ap, subst, ◌∙◌, List, [], ◌∷◌, ◌++◌, length, All, Option, Some, None, MatchOption, lit<, append-nil}
+use Rattle.std.proofs.Common.{ℕ, ◌≡◌, arith, refl, sym, ◌∙◌, List, [], ◌∷◌, length, All, Option, Some, None, MatchOption, lit<, append-nil}
 use Rattle.py_tokens.specs.declared.Keyword.{Keyword}
 use Rattle.py_tokens.specs.declared.Keyword.TheVariants as keys
 use Rattle.py_tokens.specs.WordForms.{keyword_text}

@@ -1,9 +1,11 @@
 pub mod Begins
 pub mod CharacterCount
+pub mod CutMore
 pub mod Keywords
 pub mod LongestComment
 pub mod LongestMark
 pub mod LongestNumber
 pub mod LongestWord
+pub mod PieceInFront
 pub mod StringParts
 pub mod StringWhole

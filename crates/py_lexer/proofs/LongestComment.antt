@@ -1,5 +1,5 @@
 -- What is read of a comment is the longest front that is one.
-use Rattle.std.proofs.Common.{ℕ, suc, ◌≡◌, ◌≤◌, ◌+◌, length, get_or, ◌==◌, not, true, arith, refl, sym, ap, ◌∙◌, subst, List, [], ◌∷◌, ◌++◌, take, drop}
+use Rattle.std.proofs.Common.{ℕ, suc, ◌≡◌, ◌≤◌, ◌+◌, length, get_or, true, arith, refl, sym, ap, ◌∙◌, subst, List, [], ◌∷◌, ◌++◌, take, drop}
 use Rattle.std.specs.List.{list_all, prefix_len}
 use Rattle.py_tokens.specs.TextPieces.{Longest, IsComment}
 use Rattle.py_lexer.specs.LongestForms.{is_in_line}

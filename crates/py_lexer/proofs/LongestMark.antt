@@ -1,5 +1,5 @@
 -- Every mark is tried, and the longest that fits is the longest mark in front.
-use Rattle.std.proofs.Common.{ℕ, ◌≡◌, ◌≤◌, ◌<◌, ◌+◌, arith, refl, sym, ap, subst, ◌∙◌, List, [], ◌∷◌, ◌++◌, length, take, drop, All, Some, None, Option, IsTrue, MatchOption, length-append, append_assoc, lit<}
+use Rattle.std.proofs.Common.{ℕ, ◌≡◌, ◌≤◌, ◌<◌, arith, refl, sym, ap, subst, ◌∙◌, List, [], ◌∷◌, ◌++◌, length, take, All, Some, None, Option, length-append, append_assoc, lit<}
 use Rattle.std.proofs.lemmas.List.Elements.{All-push}
 use Rattle.py_tokens.specs.declared.Mark.{Mark}
 use Rattle.py_tokens.specs.declared.Mark.TheVariants as marks
@@ -62,10 +62,13 @@ nothing_more front [] h = refl
 nothing_more front (m ∷ more) h = let e = length-append front (m ∷ more) in absurd (omega arith)
 
 pub mark_longest : (cs front rest : List ℕ) (mark : Mark) → IsLongestOf cs MARKS (Some mark) → cs ≡ front ++ rest → front ≡ mark_text mark → Longest IsMark front rest
-mark_longest cs front rest mark (b, h) e k = ((mark, k), λ more behind r (m, i).
-    let fits : BeginsWith cs (mark_text m) = (behind, e ∙ ap (λ x. front ++ x) r ∙ sym (append_assoc front more behind) ∙ ap (λ x. x ++ behind) i) in
-    let l : length (mark_text m) ≤ length (mark_text mark) = every_mark (λ m. BeginsWith cs (mark_text m) → length (mark_text m) ≤ length (mark_text mark)) h m fits in
-    nothing_more front more (subst (λ (x : List ℕ). length x ≤ length front) (sym i) (subst (λ (x : List ℕ). length (mark_text m) ≤ length x) (sym k) l)))
+mark_longest cs front rest mark (b, h) e k = (
+  (mark, k),
+  λ more behind r (m, i).
+      let fits : BeginsWith cs (mark_text m) = (behind, e ∙ ap (λ x. front ++ x) r ∙ sym (append_assoc front more behind) ∙ ap (λ x. x ++ behind) i) in
+      let l : length (mark_text m) ≤ length (mark_text mark) = every_mark (λ m. BeginsWith cs (mark_text m) → length (mark_text m) ≤ length (mark_text mark)) h m fits in
+      nothing_more front more (subst (λ (x : List ℕ). length x ≤ length front) (sym i) (subst (λ (x : List ℕ). length (mark_text m) ≤ length x) (sym k) l)),
+)
 
 pub text_in_front : (cs text : List ℕ) → BeginsWith cs text → take (length text) cs ≡ text
 text_in_front cs [] h = refl

@@ -1,8 +1,8 @@
 -- What is read of a number is the longest front that is one, and its value.
-use Rattle.std.proofs.Common.{ℕ, zero, suc, ◌≡◌, ◌≤◌, ◌<◌, ◌+◌, ◌*◌, ◌-◌, ◌==◌, ◌&&◌, not, Bool, true, false, cond, arith, refl, sym, ap, ◌∙◌, subst, List, [], ◌∷◌, ◌++◌, length, take, drop, get_or, fold, filter}
+use Rattle.std.proofs.Common.{ℕ, zero, suc, ◌≡◌, ◌≤◌, ◌+◌, ◌*◌, ◌-◌, ◌==◌, ◌&&◌, not, Bool, true, false, cond, arith, refl, sym, ap, ◌∙◌, subst, List, [], ◌∷◌, ◌++◌, length, take, drop, get_or, fold, filter}
 use Rattle.std.proofs.lemmas.Bool.{eqb-true}
-use Rattle.py_tokens.specs.TextPieces.{Longest, IsNumber}
-use Rattle.py_tokens.specs.WordForms.{is_digit, begins_with_digit, are_more_digits, is_number, number_value}
+use Rattle.py_tokens.specs.TextPieces.{Longest}
+use Rattle.py_tokens.specs.WordForms.{is_digit, begins_with_digit, are_more_digits}
 use Rattle.py_lexer.specs.LongestForms.{AreMoreDigits}
 use Rattle.py_lexer.proofs.LongestWord.{both}
 

@@ -1,11 +1,11 @@
 -- The parts of a string, one by one.
-use Rattle.std.proofs.Common.{ℕ, ◌≡◌, ◌<◌, refl, sym, ap, ◌∙◌, subst, arith, List, [], ◌∷◌, ◌++◌, length, ◌≤◌, ◌-◌, get_or, take, drop}
+use Rattle.std.proofs.Common.{ℕ, ◌≡◌, refl, sym, ap, ◌∙◌, subst, arith, List, [], ◌∷◌, ◌++◌, length, ◌≤◌, ◌-◌, get_or, take, drop}
 use Rattle.py_lexer.proofs.Begins.{all_behind}
-use Rattle.py_tokens.specs.StringForms.{Quotes, Single, Triple, quote_text, BeginsWith, IsQuote, OpensWith, opens_triple, opens_single, Part, Plain, Escape, LoneBackslash, part_text, FitsLine, IsEscape, backslash, apostrophe, quotation, line_feed, tabulator, IsPart, StandsFor}
+use Rattle.py_tokens.specs.StringForms.{Quotes, Single, Triple, quote_text, BeginsWith, IsQuote, OpensWith, opens_triple, opens_single, Part, Plain, Escape, LoneBackslash, part_text, FitsLine, IsEscape, backslash, apostrophe, quotation, line_feed, tabulator, IsPart}
 use Rattle.py_lexer.specs.declared.strings.Reading.{Reading}
 use Rattle.py_lexer.specs.declared.strings.Reading.TheVariants as readings
 use Rattle.py_lexer.specs.declared.strings.Stop.TheVariants as stops
-use Rattle.py_lexer.specs.StringReading.{StandsPart, StandsNext, StandsBehindBackslash}
+use Rattle.py_lexer.specs.StringReading.{StandsNext, StandsBehindBackslash}
 
 pub no_part_in_nothing : (quotes : Quotes) (part : Part) (more : List ℕ) → [] ≡ part_text part ++ more → ⊥
 no_part_in_nothing quotes (Plain c) more e = cc

@@ -1,5 +1,5 @@
 -- Strings from their quotes to their ends.
-use Rattle.std.proofs.Common.{ℕ, suc, ◌≡◌, ◌<◌, ◌≤◌, ◌+◌, ◌-◌, refl, sym, ap, ◌∙◌, subst, arith, List, [], ◌∷◌, ◌++◌, length, take, drop, append_assoc, append-nil, length-append, length-drop, encode_utf8_all}
+use Rattle.std.proofs.Common.{ℕ, ◌≡◌, ◌<◌, ◌≤◌, ◌+◌, ◌-◌, refl, sym, ap, ◌∙◌, subst, arith, List, [], ◌∷◌, ◌++◌, length, take, drop, append_assoc, append-nil, length-append, length-drop, encode_utf8_all}
 use Rattle.std.specs.Char.{encode_utf8}
 use Rattle.std.proofs.Math.Seq.{take-append_seam, drop-append_seam}
 use Rattle.py_base.specs.declared.Place.{Place}
@@ -7,7 +7,7 @@ use Rattle.py_tokens.specs.declared.TokenForm.TheVariants as forms
 use Rattle.py_tokens.specs.declared.Shape.{Shape}
 use Rattle.py_tokens.specs.declared.Shape.TheVariants as shapes
 use Rattle.py_tokens.specs.PlacedText.{after}
-use Rattle.py_tokens.specs.StringForms.{Quotes, Single, Triple, quote_text, BeginsWith, OpensWith, opens_triple, opens_single, Part, Plain, Escape, LoneBackslash, part_text, IsEscape, backslash, apostrophe, quotation, line_feed, tabulator, IsPart, GoesOn, SpellsString, IsOpenString, StandsFor, characters_of}
+use Rattle.py_tokens.specs.StringForms.{Quotes, Single, Triple, quote_text, BeginsWith, OpensWith, opens_triple, opens_single, Part, Plain, Escape, LoneBackslash, part_text, IsEscape, backslash, apostrophe, quotation, line_feed, tabulator, GoesOn, SpellsString, IsOpenString, StandsFor, characters_of}
 use Rattle.py_tokens.specs.TextPieces.{IsPiece, a_string, a_bad_escape, an_open_string}
 use Rattle.py_lexer.specs.declared.strings.Reading.TheVariants as readings
 use Rattle.py_lexer.specs.declared.strings.Stop.TheVariants as stops
@@ -49,13 +49,12 @@ part_fits quotes cs n value (LoneBackslash, more, (e, k, p), s, l) = let w : len
 pub read_more : (quotes : Quotes) (cs bytes rest : List ℕ) (n value : ℕ) → HasRead quotes cs bytes rest → StandsNext quotes rest (readings.Part n value) → HasRead quotes cs (bytes ++ encode_utf8 value) (drop n rest)
 read_more quotes cs bytes rest n value (parts, all, g, s, e) (part, more, (f, k, p), t, l) =
     let d : drop n rest ≡ more = ap (λ x. drop n x) f ∙ drop_front (part_text part) more n l in
-    let h : GoesOn quotes rest (part ∷ []) (drop n rest) = (more, f, k, p, sym d) in
-    (
-        parts ++ part ∷ [],
-        all ++ value ∷ [],
-        goes_append quotes cs parts rest (part ∷ []) (drop n rest) g h,
-        stands_append parts (part ∷ []) all (value ∷ []) s t,
-        ap (λ x. x ++ encode_utf8 value) e ∙ sym (encode_more all value),
+    let h : GoesOn quotes rest (part ∷ []) (drop n rest) = (more, f, k, p, sym d) in (
+      parts ++ part ∷ [],
+      all ++ value ∷ [],
+      goes_append quotes cs parts rest (part ∷ []) (drop n rest) g h,
+      stands_append parts (part ∷ []) all (value ∷ []) s t,
+      ap (λ x. x ++ encode_utf8 value) e ∙ sym (encode_more all value),
     )
 
 -- each backslash stands for one thing
@@ -112,11 +111,14 @@ same_behind [] a b e = e
 same_behind (x ∷ front) a b e = same_behind front a b (cc)
 
 open_string : (quotes : Quotes) (cs inner : List ℕ) → OpensWith cs quotes → cs ≡ quote_text quotes ++ inner → NeverCloses quotes inner → IsOpenString cs
-open_string quotes cs inner o e k = ((quotes, o), λ other parts rest (left, o', e', g).
-    let q : other ≡ quotes = one_opening cs other quotes o' o in
-    let f : cs ≡ quote_text quotes ++ left = subst (λ (x : Quotes). cs ≡ quote_text x ++ left) q e' in
-    let i : left ≡ inner = same_behind (quote_text quotes) left inner (sym f ∙ e) in
-    k parts rest (subst (λ (x : List ℕ). GoesOn quotes x parts (quote_text quotes ++ rest)) i (subst (λ (x : Quotes). GoesOn x left parts (quote_text x ++ rest)) q g)))
+open_string quotes cs inner o e k = (
+  (quotes, o),
+  λ other parts rest (left, o', e', g).
+      let q : other ≡ quotes = one_opening cs other quotes o' o in
+      let f : cs ≡ quote_text quotes ++ left = subst (λ (x : Quotes). cs ≡ quote_text x ++ left) q e' in
+      let i : left ≡ inner = same_behind (quote_text quotes) left inner (sym f ∙ e) in
+      k parts rest (subst (λ (x : List ℕ). GoesOn quotes x parts (quote_text quotes ++ rest)) i (subst (λ (x : Quotes). GoesOn x left parts (quote_text x ++ rest)) q g)),
+)
 
 opens_longer : (quotes : Quotes) (cs : List ℕ) → OpensWith cs quotes → 0 < length cs
 opens_longer (Triple a) cs (opens_triple q i (r, e)) = let w : length cs ≡ length r + 3 = ap length e ∙ omega arith in omega arith
@@ -132,11 +134,11 @@ pub open_piece : (quotes : Quotes) (p : Place) (cs inner : List ℕ) → OpensWi
 open_piece quotes p cs inner o e k = (opens_longer quotes cs o, omega arith, an_open_string (subst IsOpenString (sym (all_of cs)) (open_string quotes cs inner o e k)) (none_of cs))
 
 -- a piece whose front is what stands before the rest
-piece_before : (p : Place) (cs front rest : List ℕ) (shape : Shape) (n : ℕ) → 0 < length front → cs ≡ front ++ rest → n ≡ length front → IsPiece p front rest shape → StandsAt p cs n shape
+pub piece_before : (p : Place) (cs front rest : List ℕ) (shape : Shape) (n : ℕ) → 0 < length front → cs ≡ front ++ rest → n ≡ length front → IsPiece p front rest shape → StandsAt p cs n shape
 piece_before p cs front rest shape n w e l h = (
-    omega arith,
-    (let k : length cs ≡ length front + length rest = ap length e ∙ length-append front rest in omega arith),
-    subst (λ (x : List ℕ). IsPiece p x (drop n cs) shape) (sym (ap (λ x. take n x) e ∙ take_front front rest n l)) (subst (λ (x : List ℕ). IsPiece p front x shape) (sym (ap (λ x. drop n x) e ∙ drop_front front rest n l)) h),
+  omega arith,
+  (let k : length cs ≡ length front + length rest = ap length e ∙ length-append front rest in omega arith),
+  subst (λ (x : List ℕ). IsPiece p x (drop n cs) shape) (sym (ap (λ x. take n x) e ∙ take_front front rest n l)) (subst (λ (x : List ℕ). IsPiece p front x shape) (sym (ap (λ x. drop n x) e ∙ drop_front front rest n l)) h),
 )
 
 quotes_longer : (quotes : Quotes) (cs : List ℕ) → 0 < length (quote_text quotes ++ cs)

@@ -2,6 +2,7 @@
 #![tactic(auto)]
 
 mod comments;
+mod cut;
 mod marks;
 mod numbers;
 mod pieces;
@@ -11,6 +12,7 @@ mod strings;
 mod words;
 
 pub use comments::split_comment;
+pub use cut::{CutText, cut_all, text_pieces};
 pub use marks::split_mark;
 pub use numbers::{split_number, value_of};
 pub use pieces::next_shape;

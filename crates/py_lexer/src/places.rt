@@ -13,9 +13,8 @@ ghost use Rattle.py_tokens.specs.PlacedText.{
   IsBadByteAt,
 };
 
-use py_tokens::LexFault;
-use py_tokens::Spot;
 use py_base::Place;
+use py_tokens::{LexFault, Spot};
 use std::alloc::{AllocError, Global};
 
 /// The characters of a text with their places, each line end as one LF, and the place just after

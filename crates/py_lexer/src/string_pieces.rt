@@ -44,7 +44,10 @@ fn read_string(
     match stop {
         Stop::Closing => {
             let text = Text::of(text.into_bytes());
-            Ok((Shape::Whole(TokenForm::Str(text)), read + quotes_len(opening)))
+            Ok((
+                Shape::Whole(TokenForm::Str(text)),
+                read + quotes_len(opening),
+            ))
         }
         Stop::Unclosed => Ok((Shape::Unclosed, codes.len())),
         Stop::LoneBackslash => match behind_closing(opening, rest.split_at(1).1) {

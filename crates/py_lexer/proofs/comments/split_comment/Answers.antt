@@ -1,4 +1,4 @@
-use Rattle.std.proofs.Common.{◌≡◌, ◌∙◌, sym, ap}
+use Rattle.std.proofs.Common.{◌∙◌, sym, ap}
 use Rattle.std.specs.List.{prefix_len}
 use Rattle.py_lexer.specs.LongestForms.{is_in_line}
 use Rattle.py_lexer.proofs.Begins.{all_behind}

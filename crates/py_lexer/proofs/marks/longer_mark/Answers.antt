@@ -1,7 +1,5 @@
 use Rattle.std.proofs.Common.{◌≡◌, true, List, ℕ, subst, sym}
-use Rattle.py_tokens.specs.MarkForms.{mark_text}
 use Rattle.py_tokens.specs.StringForms.{BeginsWith}
-use Rattle.py_lexer.specs.LongestForms.{IsLongestOf}
 use Rattle.py_lexer.proofs.LongestMark.{longest_if_not, longest_if_first}
 use Rattle.py_lexer.proofs.marks.longer_mark.Goals as goal
 

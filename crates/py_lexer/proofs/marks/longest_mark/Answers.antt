@@ -1,4 +1,4 @@
-use Rattle.std.proofs.Common.{◌+◌, take, arith, List, subst, sym}
+use Rattle.std.proofs.Common.{take, arith, List, subst, sym}
 use Rattle.std.proofs.lemmas.List.{take_more, take_all}
 use Rattle.py_tokens.specs.declared.Mark.{Mark}
 use Rattle.py_tokens.specs.declared.Mark.TheVariants as marks

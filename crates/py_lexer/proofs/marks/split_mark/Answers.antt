@@ -1,5 +1,4 @@
-use Rattle.std.proofs.Common.{◌≡◌, Some, None, ◌∙◌, sym, ap, subst, Option, take, drop, length, List, ℕ}
-use Rattle.py_tokens.specs.declared.Mark.{Mark}
+use Rattle.std.proofs.Common.{Some, ◌∙◌, ap, take, length, List, ℕ}
 use Rattle.py_tokens.specs.MarkForms.{mark_text}
 use Rattle.py_lexer.specs.LongestForms.{IsLongestOf}
 use Rattle.py_lexer.specs.declared.marks.TheConstants.{MARKS}

@@ -1,4 +1,4 @@
-use Rattle.std.proofs.Common.{◌≡◌, ◌^◌}
+use Rattle.std.proofs.Common.{◌^◌}
 use Rattle.py_tokens.specs.WordForms.{number_value}
 use Rattle.py_lexer.proofs.LongestNumber.{value_above}
 use Rattle.py_lexer.proofs.numbers.unsigned_value.Goals as goal

@@ -1,6 +1,5 @@
-use Rattle.std.proofs.Common.{◌≡◌, ◌+◌, ◌-◌, List, ℕ, MatchOption, refl, subst, sym, ap, ◌∙◌, take, drop, length, ◌++◌, string_bytes, Vec, Global}
+use Rattle.std.proofs.Common.{◌+◌, ◌-◌, List, ℕ, refl, subst, sym, ap, ◌∙◌, drop, length, ◌++◌, string_bytes, Vec, Global}
 use Rattle.py_tokens.specs.declared.TokenForm.TheVariants as forms
-use Rattle.py_tokens.specs.declared.Shape.{Shape}
 use Rattle.py_tokens.specs.declared.Shape.TheVariants as shapes
 use Rattle.py_tokens.specs.PlacedText.{after}
 use Rattle.py_tokens.specs.StringForms.{Part, GoesOn, quote_text}

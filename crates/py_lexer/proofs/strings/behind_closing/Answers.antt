@@ -1,4 +1,4 @@
-use Rattle.std.proofs.Common.{◌≡◌, List, ℕ, subst, sym, ap, ◌∙◌, drop, [], ◌∷◌, ◌++◌}
+use Rattle.std.proofs.Common.{List, ℕ, subst, sym, ap, ◌∙◌, [], ◌∷◌, ◌++◌}
 use Rattle.py_tokens.specs.StringForms.{Part, LoneBackslash, GoesOn}
 use Rattle.py_lexer.specs.declared.strings.Reading.{Reading}
 use Rattle.py_lexer.specs.declared.strings.Reading.TheVariants as readings

@@ -1,4 +1,4 @@
-use Rattle.std.proofs.Common.{◌≡◌, true, refl, take, drop, length, ◌-◌}
+use Rattle.std.proofs.Common.{◌≡◌, true, take, drop, length, ◌-◌}
 use Rattle.py_lexer.specs.StringReading.{quotes_of}
 use Rattle.py_lexer.proofs.StringParts.{headed, next_backslash, next_plain}
 use Rattle.py_lexer.proofs.strings.next_part.Goals as goal

@@ -1,4 +1,4 @@
-use Rattle.std.proofs.Common.{◌≡◌, true, false, take, drop, length, ◌-◌}
+use Rattle.std.proofs.Common.{◌≡◌, true, take, drop, length, ◌-◌}
 use Rattle.py_lexer.proofs.StringParts.{headed, opens_with_three, opens_with_one}
 use Rattle.py_lexer.proofs.strings.opening_of.Goals as goal
 

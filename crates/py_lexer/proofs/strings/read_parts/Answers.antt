@@ -1,4 +1,4 @@
-use Rattle.std.proofs.Common.{◌≡◌, List, ℕ, subst, sym, drop, ◌++◌, string_bytes}
+use Rattle.std.proofs.Common.{List, ℕ, subst, sym, drop, ◌++◌, string_bytes}
 use Rattle.std.specs.Char.{encode_utf8}
 use Rattle.py_lexer.specs.declared.strings.Reading.{Reading}
 use Rattle.py_lexer.specs.StringReading.{quotes_of, StandsNext, HasRead}
