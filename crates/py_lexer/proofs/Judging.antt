@@ -9,13 +9,14 @@ use Rattle.py_tokens.specs.declared.Shape.{Shape}
 use Rattle.py_tokens.specs.declared.Shape.TheVariants as shapes
 use Rattle.py_tokens.specs.declared.LexFault.{LexFault}
 use Rattle.py_tokens.specs.declared.LexFault.TheVariants as faults
-use Rattle.py_tokens.specs.PlacedText.{after, text_start, text_characters}
+use Rattle.py_tokens.specs.PlacedText.{after, text_start, text_characters, IsBadByteAt}
 use Rattle.py_tokens.specs.TextPieces.{IsPiece, CutInto}
 use Rattle.py_tokens.specs.LineLayout.{Between, Fresh, before_all, LaidOut, Lays, EndsWith, Closes, end_place, last_newline, token_at}
-use Rattle.py_tokens.specs.TextTokens.{PiecesOf, IsSpace, IsBlank, FreshAfter, HasFault, place_of, IsNotAfter, IsFirstFault, Tokens}
+use Rattle.py_tokens.specs.TextTokens.{PiecesOf, IsSpace, IsBlank, FreshAfter, HasFault, bad_utf8, begins_no_token, after_number, bad_escape, tab_in_indent, bad_dedent, open_string, literal_too_large, name_not_nfkc, name_too_long, place_of, IsNotAfter, IsFirstFault, Tokens}
 use Rattle.py_tokens.specs.PlaceLaws.{Precedes, precedes_trans}
 use Rattle.py_tokens.specs.CutLaws.{cut_behind, piece_spans, escape_within}
 use Rattle.py_tokens.specs.LayoutLaws.{laid_together}
+use Rattle.py_tokens.specs.TokenLaws.{no_text_with_bad_byte, same_bad_byte}
 use Rattle.py_lexer.specs.declared.layout.Layout.{Layout}
 use Rattle.py_lexer.specs.declared.layout.LineFront.{LineFront}
 use Rattle.py_lexer.specs.declared.layout.LineFront.TheVariants as fronts
@@ -26,7 +27,7 @@ use Rattle.py_lexer.proofs.Splits.{apart, Apart}
 use Rattle.py_lexer.proofs.LineFronts.{Shows, shows_spaces, shows_tab, shows_comment, shows_number, shows_behind, shows_next}
 use Rattle.py_lexer.proofs.OwnFaults.{OwnFault, own_stray, own_number, own_escape, own_tab, own_dedent, own_unclosed, own_large, own_other_form, own_long, owned, has_own}
 use Rattle.py_lexer.proofs.Contexts.{now_own, own_now, layout_after, after_append, Passed}
-use Rattle.py_lexer.proofs.FirstOfPiece.{NowFault, FrontNow, ShapeNow, InOrder, is_one, is_first, has_none, before_not_after, now_number, now_tab, now_dedent, now_stray, now_escape, now_unclosed, now_large, now_long, now_other_form}
+use Rattle.py_lexer.proofs.FirstOfPiece.{NowFault, FrontNow, ShapeNow, InOrder, is_one, is_first, has_none, before_not_after, same_not_after, now_number, now_tab, now_dedent, now_stray, now_escape, now_unclosed, now_large, now_long, now_other_form}
 
 -- the pass has gone past these pieces, and none of them has a fault
 pub record Clean (bytes : List ℕ) (done rest : List Piece) (out : List Token) (layout : Layout) (place : Place) (left : List ℕ) : Type 0 where
@@ -251,3 +252,30 @@ clean_first bytes pieces whole = record {
 -- The pass over the pieces of a text gives its tokens, or its first fault.
 pub walk_judges : (bytes : List ℕ) (pieces : List Piece) (p : Place) → PiecesOf bytes pieces → p ≡ after text_start (text_characters bytes) → Judges bytes (walked p first_layout [] pieces)
 walk_judges bytes pieces p whole at = judged pieces bytes [] [] first_layout text_start p (text_characters bytes) (clean_first bytes pieces whole) at
+
+pub tokens_judged : (bytes : List ℕ) (pieces : List Piece) (p : Place) (ts : List Token) → PiecesOf bytes pieces → p ≡ after text_start (text_characters bytes) → walked p first_layout [] pieces ≡ Ok ts → Tokens bytes ts
+tokens_judged bytes pieces p ts whole at h = subst (Judges bytes) h (walk_judges bytes pieces p whole at)
+
+pub fault_judged : (bytes : List ℕ) (pieces : List Piece) (p : Place) (f : LexFault) → PiecesOf bytes pieces → p ≡ after text_start (text_characters bytes) → walked p first_layout [] pieces ≡ Err f → IsFirstFault bytes f
+fault_judged bytes pieces p f whole at h = subst (Judges bytes) h (walk_judges bytes pieces p whole at)
+
+not_text : (bytes : List ℕ) (p : Place) (pieces : List Piece) → IsBadByteAt bytes p → PiecesOf bytes pieces → ⊥
+not_text bytes p pieces bad whole = no_text_with_bad_byte bytes p bad whole.0
+
+only_bad_byte : (bytes : List ℕ) (p : Place) (g : LexFault) → IsBadByteAt bytes p → HasFault bytes g → IsNotAfter (faults.BadUtf8 p) g
+only_bad_byte bytes p _ bad (bad_utf8 q other) = same_not_after _ _ (ap (λ r. faults.BadUtf8 r) (same_bad_byte bytes p q bad other))
+only_bad_byte bytes p _ bad (begins_no_token before rest piece cut shape) = absurd (not_text bytes p _ bad cut)
+only_bad_byte bytes p _ bad (after_number before rest number piece cut numeral begins) = absurd (not_text bytes p _ bad cut)
+only_bad_byte bytes p _ bad (bad_escape before rest piece q cut shape) = absurd (not_text bytes p _ bad cut)
+only_bad_byte bytes p _ bad (tab_in_indent before spaces blanks rest tab first b cut fresh all col shape blank begins) = absurd (not_text bytes p _ bad cut)
+only_bad_byte bytes p _ bad (bad_dedent before rest first b cut fresh begins new) = absurd (not_text bytes p _ bad cut)
+only_bad_byte bytes p _ bad (open_string before rest piece cut shape) = absurd (not_text bytes p _ bad cut)
+only_bad_byte bytes p _ bad (literal_too_large before rest piece cut shape) = absurd (not_text bytes p _ bad cut)
+only_bad_byte bytes p _ bad (name_not_nfkc before rest piece name cut shape other) = absurd (not_text bytes p _ bad cut)
+only_bad_byte bytes p _ bad (name_too_long before rest piece name cut shape long) = absurd (not_text bytes p _ bad cut)
+
+first_bad_byte : (bytes : List ℕ) (p : Place) → IsBadByteAt bytes p → IsFirstFault bytes (faults.BadUtf8 p)
+first_bad_byte bytes p bad = (bad_utf8 p bad, λ g h. only_bad_byte bytes p g bad h)
+
+pub bad_byte_first : (bytes : List ℕ) (f : LexFault) → (p : Place) × (f ≡ faults.BadUtf8 p) × IsBadByteAt bytes p → IsFirstFault bytes f
+bad_byte_first bytes f (p, e, bad) = subst (IsFirstFault bytes) (sym e) (first_bad_byte bytes p bad)

@@ -1,7 +1,7 @@
 use Rattle.std.proofs.Common.{◌≡◌, ◌≤◌, ◌+◌, [], length}
 use Rattle.std.specs.Vec.Iter.{into_iter_items}
 use Rattle.py_lexer.specs.Walk.{walked, first_layout, AreTextNames}
-use Rattle.py_lexer.proofs.lex.lay_out.Given as goal
+use Rattle.py_lexer.proofs.tokens.lay_out.Given as goal
 
 abbrev pub invariant-pieces : goal.invariant-pieces
 invariant-pieces l = record {

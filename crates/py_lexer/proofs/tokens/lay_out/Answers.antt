@@ -2,7 +2,7 @@ use Rattle.std.proofs.Common.{rules, arith, ap, ◌∙◌, subst, sym, ◌≡◌
 use Rattle.std.specs.Vec.Iter.{into_iter_items}
 use Rattle.py_lexer.specs.Walk.{walked, first_layout, AreTextNames}
 use Rattle.py_lexer.proofs.Walks.{names_rest, walks_on}
-use Rattle.py_lexer.proofs.lex.lay_out.Goals as goal
+use Rattle.py_lexer.proofs.tokens.lay_out.Goals as goal
 
 pub pieces-init : goal.pieces-init
 pieces-init c =
