@@ -46,7 +46,7 @@ shown_tab done place _ e piece (shows_number front number q d numeral) h begins 
 shown_tab done place _ e piece (shows_behind q) h begins = absurd cc
 
 front_own : (done : List Piece) (place : Place) (layout : Layout) (piece : Piece) (front rest : List ℕ) (g : LexFault) → Shows done place layout.line → IsPiece place front rest piece.shape
-  → (line_of layout.line ≡ Fresh → FreshAfter done (between_of layout)) → FrontNow layout.line layout.widths piece.place piece.shape g → OwnFault done piece g
+    → (line_of layout.line ≡ Fresh → FreshAfter done (between_of layout)) → FrontNow layout.line layout.widths piece.place piece.shape g → OwnFault done piece g
 front_own done place layout piece front rest _ shows is fresh (now_number e l b) =
     let (f, number, d, numeral) = shown_number done place layout.line e shows l in own_number f number d numeral (name_begins place front rest piece.shape is b)
 front_own done place layout piece front rest _ shows is fresh (now_tab q l b) = shown_tab done place layout.line q piece shows l (token_begins piece.shape b)
@@ -61,7 +61,7 @@ shape_own done piece _ (now_long name e l) = own_long name e l
 shape_own done piece _ (now_other_form name e l) = own_other_form name e l
 
 pub now_own : (done : List Piece) (place : Place) (layout : Layout) (piece : Piece) (front rest : List ℕ) (g : LexFault) → Shows done place layout.line → IsPiece place front rest piece.shape
-  → (line_of layout.line ≡ Fresh → FreshAfter done (between_of layout)) → NowFault layout.line layout.widths piece.place piece.shape g → OwnFault done piece g
+    → (line_of layout.line ≡ Fresh → FreshAfter done (between_of layout)) → NowFault layout.line layout.widths piece.place piece.shape g → OwnFault done piece g
 now_own done place layout piece front rest g shows is fresh (inl now) = front_own done place layout piece front rest g shows is fresh now
 now_own done place layout piece front rest g shows is fresh (inr now) = shape_own done piece g now
 
@@ -185,8 +185,8 @@ start_spaces (space ∷ spaces) front rest tab cs cut all col fresh =
 
 -- the first tab in front of a line's first token is what the pass keeps
 tab_line_is : (done rest front spaces blanks : List Piece) (tab : Piece) (b : Between) (layout : Layout) (out : List Token) (cs : List ℕ)
-  → CutInto text_start cs (done ++ rest) → LaidOut before_all done out (between_of layout) → layout ≡ layout_after first_layout done
-  → done ≡ front ++ spaces ++ tab ∷ blanks → FreshAfter front b → All IsSpace spaces → length spaces + 1 ≡ tab.place.col → tab.shape ≡ shapes.Tab → All IsBlank blanks → layout.line ≡ fronts.Tab tab.place
+    → CutInto text_start cs (done ++ rest) → LaidOut before_all done out (between_of layout) → layout ≡ layout_after first_layout done
+    → done ≡ front ++ spaces ++ tab ∷ blanks → FreshAfter front b → All IsSpace spaces → length spaces + 1 ≡ tab.place.col → tab.shape ≡ shapes.Tab → All IsBlank blanks → layout.line ≡ fronts.Tab tab.place
 tab_line_is done rest front spaces blanks tab b layout out cs cut laid ran e (ts, laid_front, fresh) all col shape blank =
     let run : List Piece = spaces ++ tab ∷ blanks in
     let d : done ≡ front ++ run = e ∙ append_assoc front spaces (tab ∷ blanks) in
@@ -200,7 +200,7 @@ tab_line_is done rest front spaces blanks tab b layout out cs cut laid ran e (ts
     let whole : layout ≡ layout_after start run = ran ∙ ap (layout_after first_layout) d ∙ after_append front run first_layout in
     let free_start : line_of start.line ≡ Fresh = sym (blanks_line run start blanks_all) ∙ sym (ap (λ l. line_of l.line) whole) ∙ free in
     let cut_run : CutInto text_start cs (front ++ (spaces ++ tab ∷ (blanks ++ rest))) =
-        subst (CutInto text_start cs) (ap (λ x. x ++ rest) d ∙ append_assoc front run rest ∙ ap (λ x. front ++ x) (append_assoc spaces (tab ∷ blanks) rest)) cut in
+    subst (CutInto text_start cs) (ap (λ x. x ++ rest) d ∙ append_assoc front run rest ∙ ap (λ x. front ++ x) (append_assoc spaces (tab ∷ blanks) rest)) cut in
     let clear : start.line ≡ fronts.Spaces = start_spaces spaces front (blanks ++ rest) tab cs cut_run all col free_start in
     let spaced : Layout = layout_after start spaces in
     let at_tab : (next_layout spaced tab).line ≡ fronts.Tab tab.place = next_by spaced tab shapes.Tab shape ∙ ap (λ l. past_tab l tab.place) (spaces_stay spaces start all clear) in

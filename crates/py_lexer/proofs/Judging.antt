@@ -118,7 +118,7 @@ member_blank (x ∷ k) m piece all = member_blank k m piece (All-tail IsBlank x 
 
 -- a tab in front of a later piece, with only blanks between, stands behind this piece
 later_tab : (done m blanks rest tail front : List Piece) (tab piece x : Piece) (e : Place) (cs : List ℕ) → CutInto e cs tail → tail ≡ m ++ x ∷ rest → All IsBlank blanks → tab.shape ≡ shapes.Tab → ¬ IsBlank piece
-  → Apart front tab blanks done piece m → IsFrom e tab.place
+    → Apart front tab blanks done piece m → IsFrom e tab.place
 later_tab done m blanks rest tail front tab piece x e cs cut t all shape other (inl (k, c, b)) = absurd (other (member_blank k m piece (subst (All IsBlank) b all)))
 later_tab done m blanks rest tail front tab piece x e cs cut t all shape other (inr (inl (a, same, b))) = absurd (other (inr (sym (ap (λ p. p.shape) same) ∙ shape)))
 later_tab done m blanks rest tail front tab piece x e cs cut t all shape other (inr (inr (k, a, d))) =
@@ -143,7 +143,7 @@ later_fault whole done m rest tail before piece x e cs _ all cut t d other (own_
 later_fault whole done m rest tail before piece x e cs _ all cut t d other (own_long name s l) = later_place m rest x e cs (subst (CutInto e cs) t cut)
 
 first_by : (bytes : List ℕ) (done rest : List Piece) (piece : Piece) (out : List Token) (layout : Layout) (place : Place) (left : List ℕ) (f g : LexFault) → Clean bytes done (piece ∷ rest) out layout place left → fault_of layout.line layout.widths piece ≡ Some f
-  → (before behind : List Piece) (x : Piece) → done ++ piece ∷ rest ≡ before ++ x ∷ behind → OwnFault before x g → Apart before x behind done piece rest → IsNotAfter f g
+    → (before behind : List Piece) (x : Piece) → done ++ piece ∷ rest ≡ before ++ x ∷ behind → OwnFault before x g → Apart before x behind done piece rest → IsNotAfter f g
 first_by bytes done rest piece out layout place left f g clean found before behind x e own (inl (k, c, b)) = absurd (clean.none before k x g c own)
 first_by bytes done rest piece out layout place left f g clean found before behind x e own (inr (inl (a, same, b))) =
     let there : OwnFault done piece g = subst (λ (y : Piece). OwnFault done y g) same (subst (λ (ps : List Piece). OwnFault ps x g) a own) in
@@ -160,11 +160,11 @@ first_found : (bytes : List ℕ) (done rest : List Piece) (piece : Piece) (out :
 first_found bytes done rest piece out layout place left f clean found =
     let (front, behind, split, is, at, ends, on) = clean.cut in
     let now : NowFault layout.line layout.widths piece.place piece.shape f = is_one layout.line layout.widths piece.place piece.end piece.shape f found in
-    let own : OwnFault done piece f = now_own done place layout piece front behind f clean.shows is (λ h. (out, clean.laid, h)) now in
-    ( has_own bytes done rest piece f clean.whole own
-    , λ g h.
-        let (before, more, x, e, at_x) = owned bytes (done ++ piece ∷ rest) g clean.whole h in
-        first_by bytes done rest piece out layout place left f g clean found before more x e at_x (apart before x more done piece rest (sym e))
+    let own : OwnFault done piece f = now_own done place layout piece front behind f clean.shows is (λ h. (out, clean.laid, h)) now in (
+      has_own bytes done rest piece f clean.whole own,
+      λ g h.
+          let (before, more, x, e, at_x) = owned bytes (done ++ piece ∷ rest) g clean.whole h in
+          first_by bytes done rest piece out layout place left f g clean found before more x e at_x (apart before x more done piece rest (sym e)),
     )
 
 nothing_left : (k more : List Piece) (x : Piece) → [] ≡ k ++ x ∷ more → ⊥
@@ -172,7 +172,7 @@ nothing_left [] more x e = cc
 nothing_left (y ∷ k) more x e = cc
 
 none_by : (bytes : List ℕ) (done rest : List Piece) (piece : Piece) (out : List Token) (layout : Layout) (place : Place) (left : List ℕ) → Clean bytes done (piece ∷ rest) out layout place left → fault_of layout.line layout.widths piece ≡ None
-  → (before more : List Piece) (x : Piece) (g : LexFault) → OwnFault before x g → Apart before x more done piece [] → ⊥
+    → (before more : List Piece) (x : Piece) (g : LexFault) → OwnFault before x g → Apart before x more done piece [] → ⊥
 none_by bytes done rest piece out layout place left clean none before more x g own (inl (k, c, b)) = clean.none before k x g c own
 none_by bytes done rest piece out layout place left clean none before more x g own (inr (inl (a, same, b))) =
     let there : OwnFault done piece g = subst (λ (y : Piece). OwnFault done y g) same (subst (λ (ps : List Piece). OwnFault ps x g) a own) in
@@ -180,7 +180,7 @@ none_by bytes done rest piece out layout place left clean none before more x g o
 none_by bytes done rest piece out layout place left clean none before more x g own (inr (inr (k, a, d))) = nothing_left k more x d
 
 laid_one : (bytes : List ℕ) (done rest : List Piece) (piece : Piece) (out : List Token) (layout : Layout) (place : Place) (left : List ℕ) → Clean bytes done (piece ∷ rest) out layout place left → fault_of layout.line layout.widths piece ≡ None
-  → LaidOut before_all (done ++ piece ∷ []) (out ++ tokens_of layout piece piece.shape) (between_of (next_layout layout piece))
+    → LaidOut before_all (done ++ piece ∷ []) (out ++ tokens_of layout piece piece.shape) (between_of (next_layout layout piece))
 laid_one bytes done rest piece out layout place left clean none =
     let ts : List Token = tokens_of layout piece piece.shape in
     let next : Between = between_of (next_layout layout piece) in
@@ -189,8 +189,8 @@ laid_one bytes done rest piece out layout place left clean none =
     laid_together done (piece ∷ []) before_all (between_of layout) next out ts clean.laid one
 
 goes_on_clean : (bytes : List ℕ) (done rest : List Piece) (piece : Piece) (out : List Token) (layout : Layout) (place : Place) (left front behind : List ℕ) → Clean bytes done (piece ∷ rest) out layout place left → fault_of layout.line layout.widths piece ≡ None
-  → IsPiece place front behind piece.shape → piece.place ≡ place → piece.end ≡ after place front → CutInto piece.end behind rest
-  → Clean bytes (done ++ piece ∷ []) rest (out ++ tokens_of layout piece piece.shape) (next_layout layout piece) piece.end behind
+    → IsPiece place front behind piece.shape → piece.place ≡ place → piece.end ≡ after place front → CutInto piece.end behind rest
+    → Clean bytes (done ++ piece ∷ []) rest (out ++ tokens_of layout piece piece.shape) (next_layout layout piece) piece.end behind
 goes_on_clean bytes done rest piece out layout place left front behind clean none is at ends on =
     let laid : LaidOut before_all (done ++ piece ∷ []) (out ++ tokens_of layout piece piece.shape) (between_of (next_layout layout piece)) = laid_one bytes done rest piece out layout place left clean none in
     record {
@@ -235,8 +235,8 @@ judged [] bytes done out layout place p left clean at = judged_end bytes done ou
 judged (piece ∷ rest) bytes done out layout place p left clean at =
     let (front, behind, split, is, begins, ends, on) = clean.cut in
     judged_one bytes (fault_of layout.line layout.widths piece) (walked p (next_layout layout piece) (out ++ tokens_of layout piece piece.shape) rest)
-      (λ f h. first_found bytes done rest piece out layout place left f clean h)
-      (λ h. judged rest bytes (done ++ piece ∷ []) (out ++ tokens_of layout piece piece.shape) (next_layout layout piece) piece.end p behind (goes_on_clean bytes done rest piece out layout place left front behind clean h is begins ends on) at)
+    (λ f h. first_found bytes done rest piece out layout place left f clean h)
+    (λ h. judged rest bytes (done ++ piece ∷ []) (out ++ tokens_of layout piece piece.shape) (next_layout layout piece) piece.end p behind (goes_on_clean bytes done rest piece out layout place left front behind clean h is begins ends on) at)
 
 clean_first : (bytes : List ℕ) (pieces : List Piece) → PiecesOf bytes pieces → Clean bytes [] pieces [] first_layout text_start (text_characters bytes)
 clean_first bytes pieces whole = record {

@@ -79,16 +79,16 @@ never (Some g) f h = cc
 never None f h = cc
 
 lays_first : (form : TokenForm) (brackets : ℕ) (ws : List ℕ) (p e : Place) → Stands ws → is_new_below (width_at p) ws ≡ false
-  → Lays (between Fresh brackets ws) (piece_of p e (shapes.Whole form)) (turn_tokens p (width_at p) ws ++ token_of (piece_of p e (shapes.Whole form)) form ∷ []) (between (line_of (past_form form e)) (brackets_behind form brackets) (turn_widths (width_at p) ws))
+    → Lays (between Fresh brackets ws) (piece_of p e (shapes.Whole form)) (turn_tokens p (width_at p) ws ++ token_of (piece_of p e (shapes.Whole form)) form ∷ []) (between (line_of (past_form form e)) (brackets_behind form brackets) (turn_widths (width_at p) ws))
 lays_first form brackets ws p e stands new =
     begins_line form (turn_tokens p (width_at p) ws) (turn_widths (width_at p) ws) refl refl (turns p (width_at p) ws stands new).0 refl (same_line _ _ (brackets_behind form brackets) (turn_widths (width_at p) ws) (sym (form_line form e)))
 
 lays_more : (form : TokenForm) (q : Place) (brackets : ℕ) (ws : List ℕ) (p e : Place)
-  → Lays (between (Behind q) brackets ws) (piece_of p e (shapes.Whole form)) (token_of (piece_of p e (shapes.Whole form)) form ∷ []) (between (line_of (past_form form e)) (brackets_behind form brackets) ws)
+    → Lays (between (Behind q) brackets ws) (piece_of p e (shapes.Whole form)) (token_of (piece_of p e (shapes.Whole form)) form ∷ []) (between (line_of (past_form form e)) (brackets_behind form brackets) ws)
 lays_more form q brackets ws p e = goes_on form q refl refl refl (same_line _ _ (brackets_behind form brackets) ws (sym (form_line form e)))
 
 lays_token : (line : LineFront) (form : TokenForm) (brackets : ℕ) (ws : List ℕ) (p e : Place) → Stands ws → fault_of line ws (piece_of p e (shapes.Whole form)) ≡ None
-  → Lays (between (line_of line) brackets ws) (piece_of p e (shapes.Whole form)) (tokens_of (layout_of line brackets ws) (piece_of p e (shapes.Whole form)) (shapes.Whole form)) (between_of (next_layout (layout_of line brackets ws) (piece_of p e (shapes.Whole form)))) × Stands (next_layout (layout_of line brackets ws) (piece_of p e (shapes.Whole form))).widths
+    → Lays (between (line_of line) brackets ws) (piece_of p e (shapes.Whole form)) (tokens_of (layout_of line brackets ws) (piece_of p e (shapes.Whole form)) (shapes.Whole form)) (between_of (next_layout (layout_of line brackets ws) (piece_of p e (shapes.Whole form)))) × Stands (next_layout (layout_of line brackets ws) (piece_of p e (shapes.Whole form))).widths
 lays_token fronts.Spaces form brackets ws p e stands h = let new : is_new_below (width_at p) ws ≡ false = not_new _ _ _ h in (lays_first form brackets ws p e stands new, (turns p (width_at p) ws stands new).1)
 lays_token (fronts.Tab q) form brackets ws p e stands h = cc
 lays_token fronts.Comment form brackets ws p e stands h = let new : is_new_below (width_at p) ws ≡ false = not_new _ _ _ h in (lays_first form brackets ws p e stands new, (turns p (width_at p) ws stands new).1)

@@ -85,7 +85,7 @@ past_end (fronts.Behind q) brackets next end fresh col = past_end_by (brackets =
 
 -- what is shown in front of a piece, and then behind it
 pub shows_next : (shape : Shape) (done : List Piece) (place : Place) (layout : Layout) (piece : Piece) (front rest : List ℕ) → piece.shape ≡ shape → piece.place ≡ place → IsPiece place front rest piece.shape → piece.end ≡ after place front
-  → (line_of (layout_past layout piece shape).line ≡ Fresh → (b : Between) × FreshAfter (done ++ piece ∷ []) b) → Shows done place layout.line → Shows (done ++ piece ∷ []) piece.end (layout_past layout piece shape).line
+    → (line_of (layout_past layout piece shape).line ≡ Fresh → (b : Between) × FreshAfter (done ++ piece ∷ []) b) → Shows done place layout.line → Shows (done ++ piece ∷ []) piece.end (layout_past layout piece shape).line
 shows_next (shapes.Whole form) done place layout piece front rest e at is ends fresh shows = past_token form done piece (λ z f. numeral_of place front rest piece.shape z is (e ∙ ap (λ x. shapes.Whole x) f))
 shows_next shapes.LargeNumber done place layout piece front rest e at is ends fresh shows = shows_number done piece piece.end refl (subst IsNumeral (sym e) is_large)
 shows_next shapes.Space done place layout piece front rest e at is ends fresh shows = past_space done place layout.line piece e (ap (λ q. q.col) (ends ∙ ap (after place) (space_front place front rest piece.shape is e))) shows

@@ -27,3 +27,5 @@ pub use words::{keyword_of, split_word};
 
 #[cfg(test)]
 mod tests;
+#[cfg(test)]
+mod tests_of_lex;
