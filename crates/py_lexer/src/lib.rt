@@ -15,15 +15,9 @@ mod tokens;
 mod widths;
 mod words;
 
-pub use comments::split_comment;
-pub use cut::{CutText, cut_all, text_pieces};
-pub use marks::split_mark;
-pub use numbers::{split_number, value_of};
-pub use pieces::next_shape;
+pub use cut::{CutText, text_pieces};
 pub use places::{TextSpots, characters};
-pub use string_pieces::split_string;
 pub use tokens::lex;
-pub use words::{keyword_of, split_word};
 
 #[cfg(test)]
 mod tests;
