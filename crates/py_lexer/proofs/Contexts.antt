@@ -1,6 +1,6 @@
 -- The faults of a piece by the pieces in front of it are those by what stands in front on its line.
 use Rattle.std.specs.Prelude.{All, length}
-use Rattle.std.proofs.Common.{ℕ, ℤ, pos, ◌≡◌, ◌<◌, ◌≤◌, ◌+◌, ◌==◌, ◌⊎◌, inl, inr, Bool, true, false, List, [], ◌∷◌, ◌++◌, refl, sym, ap, ◌∙◌, subst, arith, append_assoc}
+use Rattle.std.proofs.Common.{ℕ, pos, ◌≡◌, ◌≤◌, ◌+◌, ◌==◌, ◌⊎◌, inl, inr, Bool, true, false, List, [], ◌∷◌, ◌++◌, refl, sym, ap, ◌∙◌, subst, arith, append_assoc}
 use Rattle.std.proofs.lemmas.List.Elements.{All-nil, All-cons, All-append, All-head, All-tail}
 use Rattle.py_base.specs.declared.Place.{Place}
 use Rattle.py_tokens.specs.declared.Token.{Token}
@@ -12,14 +12,14 @@ use Rattle.py_tokens.specs.declared.LexFault.{LexFault}
 use Rattle.py_tokens.specs.declared.LexFault.TheVariants as faults
 use Rattle.py_tokens.specs.PlacedText.{after, text_start}
 use Rattle.py_tokens.specs.TextPieces.{IsPiece, CutInto}
-use Rattle.py_tokens.specs.LineLayout.{Line, Between, Fresh, Behind, before_all, LaidOut, Lays, separates, begins_line, goes_on, ends_line, ends_blank_line, ends_within_brackets, width_at}
+use Rattle.py_tokens.specs.LineLayout.{Between, Fresh, Behind, before_all, LaidOut, Lays, separates, begins_line, goes_on, ends_line, ends_blank_line, ends_within_brackets, width_at}
 use Rattle.py_tokens.specs.TextTokens.{IsSpace, IsBlank, IsNumeral, fits, is_large, BeginsToken, FreshAfter, IsNewBelow}
 use Rattle.py_tokens.specs.CutLaws.{cut_behind, pieces_touch}
 use Rattle.py_tokens.specs.LayoutLaws.{same_laid, laid_apart}
 use Rattle.py_lexer.specs.declared.layout.Layout.{Layout}
 use Rattle.py_lexer.specs.declared.layout.LineFront.{LineFront}
 use Rattle.py_lexer.specs.declared.layout.LineFront.TheVariants as fronts
-use Rattle.py_lexer.specs.Walk.{line_of, between_of, layout_past, next_layout, first_layout, past_number, past_tab, past_comment, past_line_end, past_form, begins_token, begins_as_name, is_new_below}
+use Rattle.py_lexer.specs.Walk.{line_of, between_of, layout_past, next_layout, first_layout, past_number, past_tab, past_line_end}
 use Rattle.py_lexer.proofs.Laying.{number_line, tab_line, form_line}
 use Rattle.py_lexer.proofs.PieceEnds.{not_at_start, from_one, past_spaces}
 use Rattle.py_lexer.proofs.Splits.{with_last}

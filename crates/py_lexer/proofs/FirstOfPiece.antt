@@ -1,12 +1,11 @@
 -- The faults of a piece by what stands in front of it, and which of them is the first.
-use Rattle.std.proofs.Common.{ℕ, ◌≡◌, ◌<◌, ◌≤◌, ◌+◌, ◌&&◌, ◌⊎◌, inl, inr, not, nat_lt, Bool, true, false, cond, List, [], ◌∷◌, length, refl, sym, ap, ◌∙◌, subst, arith, Option, Some, None}
+use Rattle.std.proofs.Common.{ℕ, ◌≡◌, ◌<◌, ◌≤◌, ◌&&◌, ◌⊎◌, inl, inr, nat_lt, Bool, true, false, cond, List, length, refl, sym, ap, ◌∙◌, subst, arith, Option, Some, None}
 use Rattle.std.specs.Str.{chars}
 use Rattle.std.proofs.lemmas.Slice.Eq.{bytes_eq-Decides}
 use Rattle.std.proofs.lemmas.Bool.Decides.{not_from_Decides}
 use Rattle.unicode_normalization.specs.Forms.{IsInForm, is_in_form, normalize}
 use Rattle.unicode_normalization.specs.declared.Form.TheVariants as normal
 use Rattle.py_base.specs.declared.Place.{Place}
-use Rattle.py_tokens.specs.declared.TokenForm.{TokenForm}
 use Rattle.py_tokens.specs.declared.TokenForm.TheVariants as forms
 use Rattle.py_tokens.specs.declared.Shape.{Shape}
 use Rattle.py_tokens.specs.declared.Shape.TheVariants as shapes
@@ -17,7 +16,7 @@ use Rattle.py_tokens.specs.TextTokens.{place_of, rank_of, IsNotAfter, by_line, b
 use Rattle.py_tokens.specs.PlaceLaws.{Precedes, precedes_trans}
 use Rattle.py_lexer.specs.declared.layout.LineFront.{LineFront}
 use Rattle.py_lexer.specs.declared.layout.LineFront.TheVariants as fronts
-use Rattle.py_lexer.specs.Walk.{line_of, begins_token, begins_as_name, is_new_below, front_fault, shape_fault, name_fault, form_fault, fault_of, first_of}
+use Rattle.py_lexer.specs.Walk.{line_of, begins_token, begins_as_name, is_new_below, front_fault, shape_fault, name_fault, fault_of, first_of}
 use Rattle.py_lexer.proofs.Laying.{piece_of}
 use Rattle.py_lexer.proofs.Turning.{less, not_less}
 

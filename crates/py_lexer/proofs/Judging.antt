@@ -1,6 +1,6 @@
 -- The pass over the pieces of a text gives its tokens or its first fault.
-use Rattle.std.specs.Prelude.{All, length}
-use Rattle.std.proofs.Common.{ℕ, ◌≡◌, ◌<◌, ◌≤◌, ◌+◌, ◌⊎◌, inl, inr, Bool, true, false, List, [], ◌∷◌, ◌++◌, refl, sym, ap, ◌∙◌, subst, arith, append_assoc, append-nil, Option, Some, None, Result, Ok, Err}
+use Rattle.std.specs.Prelude.{All}
+use Rattle.std.proofs.Common.{ℕ, ◌≡◌, ◌⊎◌, inl, inr, true, false, List, [], ◌∷◌, ◌++◌, refl, sym, ap, ◌∙◌, subst, append_assoc, append-nil, Option, Some, None, Result, Ok, Err}
 use Rattle.std.proofs.lemmas.List.Elements.{All-nil, All-head, All-tail}
 use Rattle.py_base.specs.declared.Place.{Place}
 use Rattle.py_tokens.specs.declared.Token.{Token}
@@ -11,8 +11,8 @@ use Rattle.py_tokens.specs.declared.LexFault.{LexFault}
 use Rattle.py_tokens.specs.declared.LexFault.TheVariants as faults
 use Rattle.py_tokens.specs.PlacedText.{after, text_start, text_characters, IsBadByteAt}
 use Rattle.py_tokens.specs.TextPieces.{IsPiece, CutInto}
-use Rattle.py_tokens.specs.LineLayout.{Between, Fresh, before_all, LaidOut, Lays, EndsWith, Closes, end_place, last_newline, token_at}
-use Rattle.py_tokens.specs.TextTokens.{PiecesOf, IsSpace, IsBlank, FreshAfter, HasFault, bad_utf8, begins_no_token, after_number, bad_escape, tab_in_indent, bad_dedent, open_string, literal_too_large, name_not_nfkc, name_too_long, place_of, IsNotAfter, IsFirstFault, Tokens}
+use Rattle.py_tokens.specs.LineLayout.{Between, before_all, LaidOut, Lays, EndsWith, end_place}
+use Rattle.py_tokens.specs.TextTokens.{PiecesOf, IsSpace, IsBlank, HasFault, bad_utf8, begins_no_token, after_number, bad_escape, tab_in_indent, bad_dedent, open_string, literal_too_large, name_not_nfkc, name_too_long, place_of, IsNotAfter, IsFirstFault, Tokens}
 use Rattle.py_tokens.specs.PlaceLaws.{Precedes, precedes_trans}
 use Rattle.py_tokens.specs.CutLaws.{cut_behind, piece_spans, escape_within}
 use Rattle.py_tokens.specs.LayoutLaws.{laid_together}
@@ -20,14 +20,14 @@ use Rattle.py_tokens.specs.TokenLaws.{no_text_with_bad_byte, same_bad_byte}
 use Rattle.py_lexer.specs.declared.layout.Layout.{Layout}
 use Rattle.py_lexer.specs.declared.layout.LineFront.{LineFront}
 use Rattle.py_lexer.specs.declared.layout.LineFront.TheVariants as fronts
-use Rattle.py_lexer.specs.Walk.{line_of, between_of, next_layout, layout_past, first_layout, fault_of, tokens_of, walked, unless_fault, closing_of, dedents_of, left_of, begins_token, begins_as_name}
+use Rattle.py_lexer.specs.Walk.{between_of, next_layout, first_layout, fault_of, tokens_of, walked, unless_fault, closing_of, dedents_of, left_of, begins_token, begins_as_name}
 use Rattle.py_lexer.proofs.Turning.{Stands, closes_all}
 use Rattle.py_lexer.proofs.Laying.{is_laid}
 use Rattle.py_lexer.proofs.Splits.{apart, Apart}
 use Rattle.py_lexer.proofs.LineFronts.{Shows, shows_spaces, shows_tab, shows_comment, shows_number, shows_behind, shows_next}
 use Rattle.py_lexer.proofs.OwnFaults.{OwnFault, own_stray, own_number, own_escape, own_tab, own_dedent, own_unclosed, own_large, own_other_form, own_long, owned, has_own}
 use Rattle.py_lexer.proofs.Contexts.{now_own, own_now, layout_after, after_append, Passed}
-use Rattle.py_lexer.proofs.FirstOfPiece.{NowFault, FrontNow, ShapeNow, InOrder, is_one, is_first, has_none, before_not_after, same_not_after, now_number, now_tab, now_dedent, now_stray, now_escape, now_unclosed, now_large, now_long, now_other_form}
+use Rattle.py_lexer.proofs.FirstOfPiece.{NowFault, InOrder, is_one, is_first, has_none, before_not_after, same_not_after, now_number, now_tab, now_dedent, now_stray, now_escape, now_unclosed, now_large, now_long, now_other_form}
 
 -- the pass has gone past these pieces, and none of them has a fault
 pub record Clean (bytes : List ℕ) (done rest : List Piece) (out : List Token) (layout : Layout) (place : Place) (left : List ℕ) : Type 0 where

@@ -1,18 +1,17 @@
 -- A piece without a fault is laid out as the definition says.
-use Rattle.std.proofs.Common.{ℕ, zero, suc, ◌≡◌, ◌<◌, ◌+◌, ◌==◌, ◌&&◌, ◌⊎◌, inl, inr, Bool, true, false, List, [], ◌∷◌, ◌++◌, refl, sym, ap, ◌∙◌, subst, arith, Option, Some, None, cond}
+use Rattle.std.proofs.Common.{ℕ, ◌≡◌, ◌<◌, ◌==◌, inl, inr, Bool, true, false, List, [], ◌∷◌, ◌++◌, refl, sym, ap, Option, Some, None, cond}
 use Rattle.py_base.specs.declared.Place.{Place}
-use Rattle.py_tokens.specs.declared.Token.{Token}
 use Rattle.py_tokens.specs.declared.TokenForm.{TokenForm}
 use Rattle.py_tokens.specs.declared.TokenForm.TheVariants as forms
 use Rattle.py_tokens.specs.declared.Piece.{Piece}
 use Rattle.py_tokens.specs.declared.Shape.{Shape}
 use Rattle.py_tokens.specs.declared.Shape.TheVariants as shapes
 use Rattle.py_tokens.specs.declared.LexFault.{LexFault}
-use Rattle.py_tokens.specs.LineLayout.{Line, Fresh, Behind, Between, Lays, separates, begins_line, goes_on, ends_line, ends_blank_line, ends_within_brackets, Turns, brackets_behind, behind, width_at, token_of}
+use Rattle.py_tokens.specs.LineLayout.{Line, Fresh, Behind, Between, Lays, separates, begins_line, goes_on, ends_line, ends_blank_line, ends_within_brackets, brackets_behind, width_at, token_of}
 use Rattle.py_lexer.specs.declared.layout.Layout.{Layout}
 use Rattle.py_lexer.specs.declared.layout.LineFront.{LineFront}
 use Rattle.py_lexer.specs.declared.layout.LineFront.TheVariants as fronts
-use Rattle.py_lexer.specs.Walk.{line_of, between_of, fault_of, first_of, is_new_below, tokens_of, newlines_of, next_layout, past_number, past_tab, past_comment, past_line_end, past_form, turn_tokens, turn_widths, dedent_fault}
+use Rattle.py_lexer.specs.Walk.{line_of, between_of, fault_of, first_of, is_new_below, tokens_of, newlines_of, next_layout, past_number, past_tab, past_comment, past_line_end, past_form, turn_tokens, turn_widths}
 use Rattle.py_lexer.proofs.Turning.{Stands, turns, same_number, not_zero}
 
 abbrev pub piece_of : Place → Place → Shape → Piece

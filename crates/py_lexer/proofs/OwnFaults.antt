@@ -1,13 +1,12 @@
 -- The faults of a text, each at its piece.
 use Rattle.std.specs.Prelude.{All, length}
-use Rattle.std.proofs.Common.{ℕ, ◌≡◌, ◌<◌, ◌+◌, ◌⊎◌, inl, inr, pos, List, [], ◌∷◌, ◌++◌, refl, sym, ap, ◌∙◌, subst, append_assoc}
+use Rattle.std.proofs.Common.{ℕ, ◌≡◌, ◌<◌, ◌+◌, List, [], ◌∷◌, ◌++◌, refl, sym, ap, ◌∙◌, subst, append_assoc}
 use Rattle.std.specs.Str.{chars}
 use Rattle.unicode_normalization.specs.Forms.{IsInForm}
 use Rattle.unicode_normalization.specs.declared.Form.TheVariants as normal
 use Rattle.py_base.specs.declared.Place.{Place}
 use Rattle.py_tokens.specs.declared.TokenForm.TheVariants as forms
 use Rattle.py_tokens.specs.declared.Piece.{Piece}
-use Rattle.py_tokens.specs.declared.Shape.{Shape}
 use Rattle.py_tokens.specs.declared.Shape.TheVariants as shapes
 use Rattle.py_tokens.specs.declared.LexFault.{LexFault}
 use Rattle.py_tokens.specs.declared.LexFault.TheVariants as faults

@@ -1,5 +1,5 @@
 -- Where spaces, tabs, comments and ends of lines end.
-use Rattle.std.proofs.Common.{ℕ, ℤ, ◌≡◌, ◌<◌, ◌≤◌, ◌+◌, ◌==◌, ◌&&◌, ◌⊎◌, inl, inr, not, Bool, true, false, cond, pos, List, [], ◌∷◌, ◌++◌, length, refl, sym, ap, ◌∙◌, subst, arith}
+use Rattle.std.proofs.Common.{ℕ, ℤ, ◌≡◌, ◌≤◌, ◌+◌, ◌==◌, ◌&&◌, ◌⊎◌, inl, inr, not, Bool, true, false, List, [], ◌∷◌, ◌++◌, length, refl, ap, ◌∙◌, arith}
 use Rattle.std.specs.Prelude.{All}
 use Rattle.std.specs.List.{list_all}
 use Rattle.std.proofs.lemmas.List.Elements.{All-head, All-tail}
@@ -8,9 +8,9 @@ use Rattle.py_tokens.specs.declared.TokenForm.TheVariants as forms
 use Rattle.py_tokens.specs.declared.Piece.{Piece}
 use Rattle.py_tokens.specs.declared.Shape.{Shape}
 use Rattle.py_tokens.specs.declared.Shape.TheVariants as shapes
-use Rattle.py_tokens.specs.PlacedText.{after, after_one, text_start}
+use Rattle.py_tokens.specs.PlacedText.{after, after_one}
 use Rattle.py_tokens.specs.TextPieces.{IsPiece, a_name, a_keyword, a_number, a_large_number, a_mark, a_string, a_space, a_tab, a_comment, a_line_end, a_bad_escape, an_open_string, a_stray, IsComment, CutInto}
-use Rattle.py_tokens.specs.TextTokens.{IsSpace, IsBlank, IsNumeral, fits, is_large}
+use Rattle.py_tokens.specs.TextTokens.{IsSpace, IsNumeral, fits, is_large}
 
 pub space_front : (p : Place) (front rest : List ℕ) (shape : Shape) → IsPiece p front rest shape → shape ≡ shapes.Space → front ≡ 32 ∷ []
 space_front p front rest _ (a_name l k) e = absurd cc

@@ -1,5 +1,5 @@
 -- One list with a member picked out in two ways.
-use Rattle.std.proofs.Common.{◌≡◌, ◌⊎◌, inl, inr, List, [], ◌∷◌, ◌++◌, refl, sym, ap, ◌∙◌}
+use Rattle.std.proofs.Common.{◌≡◌, ◌⊎◌, inl, inr, List, [], ◌∷◌, ◌++◌, refl, ap}
 
 -- x stands in front of y, is y, or stands behind it
 abbrev pub Apart : {X : Type 0} → List X → X → List X → List X → X → List X → Type 0

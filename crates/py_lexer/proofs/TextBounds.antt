@@ -1,6 +1,6 @@
 -- Bounds on the pieces of a text, and the bytes of its names.
 use Rattle.std.specs.Prelude.{length}
-use Rattle.std.proofs.Common.{ℕ, suc, ◌≡◌, ◌<◌, ◌≤◌, ◌+◌, ◌^◌, ◌==◌, ◌&&◌, Bool, true, false, cond, List, [], ◌∷◌, ◌++◌, refl, sym, ap, ◌∙◌, subst, arith, length-append}
+use Rattle.std.proofs.Common.{ℕ, suc, ◌≡◌, ◌<◌, ◌≤◌, ◌+◌, ◌^◌, ◌==◌, ◌&&◌, Bool, true, false, List, [], ◌∷◌, ◌++◌, refl, sym, ap, ◌∙◌, arith, length-append}
 use Rattle.std.proofs.Math.Utf8.{scalar, scalars}
 use Rattle.std.specs.Str.{IsUtf8, chars}
 use Rattle.std.proofs.lemmas.Str.{scalars-chars}
@@ -14,7 +14,7 @@ use Rattle.py_tokens.specs.TextPieces.{IsPiece, a_name, a_keyword, a_number, a_l
 use Rattle.py_tokens.specs.LineLayout.{end_place}
 use Rattle.py_tokens.specs.TextTokens.{PiecesOf}
 use Rattle.py_tokens.specs.PieceLaws.{not_empty}
-use Rattle.py_lexer.specs.Walk.{IsTextName, AreTextNames}
+use Rattle.py_lexer.specs.Walk.{AreTextNames}
 use Rattle.py_lexer.proofs.CharacterCount.{chars_fewer}
 use Rattle.py_lexer.proofs.PieceEnds.{from_one}
 use Rattle.py_lexer.proofs.Turning.{is_same}

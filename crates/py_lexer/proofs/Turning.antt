@@ -1,10 +1,10 @@
 -- The widths that the first token of a line closes and opens.
-use Rattle.std.proofs.Common.{ℕ, ◌≡◌, ◌<◌, ◌≤◌, ◌+◌, ◌-◌, ◌==◌, ◌&&◌, ◌||◌, nat_lt, nat_eq, not, Bool, true, false, List, [], ◌∷◌, ◌++◌, refl, sym, ap, ◌∙◌, subst, arith, cond}
+use Rattle.std.proofs.Common.{ℕ, ◌≡◌, ◌<◌, ◌≤◌, ◌==◌, ◌&&◌, ◌||◌, nat_lt, not, Bool, true, false, List, [], ◌∷◌, refl, ap, subst, arith}
 use Rattle.std.specs.List.{list_any}
 use Rattle.std.proofs.lemmas.Bool.Decides.{Decides-ltb, Decides-eqb, not_from_Decides}
 use Rattle.py_base.specs.declared.Place.{Place}
 use Rattle.py_tokens.specs.LineLayout.{Closes, is_open, closes_one, Turns, deeper, not_deeper}
-use Rattle.py_lexer.specs.Walk.{newest, is_new_below, dedents_of, left_of, turn_tokens, turn_widths}
+use Rattle.py_lexer.specs.Walk.{is_new_below, dedents_of, left_of, turn_tokens, turn_widths}
 
 -- the widths ascend from 0 up to this one
 abbrev pub Climbs : ℕ → List ℕ → Type 0
