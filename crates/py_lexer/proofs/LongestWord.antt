@@ -5,7 +5,7 @@ use Rattle.unicode_ident.specs.Ident.{is_xid_continue}
 use Rattle.py_tokens.specs.TextPieces.{Longest, IsWord}
 use Rattle.py_tokens.specs.WordForms.{begins_word, word_len}
 
-both : (a b : Bool) → (a && b) ≡ true → (a ≡ true) × (b ≡ true)
+pub both : (a b : Bool) → (a && b) ≡ true → (a ≡ true) × (b ≡ true)
 both true b h = (refl, h)
 both false b h = cc
 
@@ -13,11 +13,11 @@ passes_by : (b : Bool) (p : ℕ → Bool) (x : ℕ) (xs : List ℕ) → p x ≡ 
 passes_by true p x xs h i = let e : 1 + prefix_len p xs ≡ suc (prefix_len p xs) = omega arith in subst (λ (k : ℕ). list_all p (take k (x ∷ xs)) ≡ true) (sym e) (ap (λ b. b && list_all p (take (prefix_len p xs) xs)) h ∙ i)
 passes_by false p x xs h i = refl
 
-passes : (p : ℕ → Bool) (xs : List ℕ) → list_all p (take (prefix_len p xs) xs) ≡ true
+pub passes : (p : ℕ → Bool) (xs : List ℕ) → list_all p (take (prefix_len p xs) xs) ≡ true
 passes p [] = refl
 passes p (x ∷ xs) = passes_by (p x) p x xs refl (passes p xs)
 
-none_more : (more behind : List ℕ) → [] ≡ more ++ behind → more ≡ []
+pub none_more : (more behind : List ℕ) → [] ≡ more ++ behind → more ≡ []
 none_more [] behind e = refl
 none_more (m ∷ more) behind e = cc
 
@@ -34,11 +34,11 @@ stops_by true p x xs h i more behind e t =
     i more behind (subst (λ (n : ℕ). drop n (x ∷ xs) ≡ more ++ behind) k e) t
 stops_by false p x xs h i more behind e t = not_first p x xs more behind h e t
 
-stops : (p : ℕ → Bool) (xs more behind : List ℕ) → drop (prefix_len p xs) xs ≡ more ++ behind → list_all p more ≡ true → more ≡ []
+pub stops : (p : ℕ → Bool) (xs more behind : List ℕ) → drop (prefix_len p xs) xs ≡ more ++ behind → list_all p more ≡ true → more ≡ []
 stops p [] more behind e t = none_more more behind e
 stops p (x ∷ xs) more behind e t = stops_by (p x) p x xs refl (stops p xs) more behind e t
 
-second_passes : (p : ℕ → Bool) (front more : List ℕ) → list_all p (front ++ more) ≡ true → list_all p more ≡ true
+pub second_passes : (p : ℕ → Bool) (front more : List ℕ) → list_all p (front ++ more) ≡ true → list_all p more ≡ true
 second_passes p [] more t = t
 second_passes p (x ∷ front) more t = second_passes p front more (both (p x) (list_all p (front ++ more)) t).1
 

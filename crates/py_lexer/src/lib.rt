@@ -1,11 +1,25 @@
-//! The parts of the lexer that are built so far.
+//! The lexer: the tokens of a text, or its first fault.
 #![tactic(auto)]
 
+mod comments;
+mod cut;
+mod faults;
+mod layout;
+mod marks;
+mod numbers;
+mod pieces;
 mod places;
+mod string_pieces;
+mod strings;
+mod tokens;
+mod widths;
 mod words;
 
+pub use cut::{CutText, text_pieces};
 pub use places::{TextSpots, characters};
-pub use words::split_word;
+pub use tokens::lex;
 
 #[cfg(test)]
 mod tests;
+#[cfg(test)]
+mod tests_of_lex;

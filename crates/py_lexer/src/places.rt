@@ -13,9 +13,8 @@ ghost use Rattle.py_tokens.specs.PlacedText.{
   IsBadByteAt,
 };
 
-use py_tokens::LexFault;
-use py_tokens::Spot;
 use py_base::Place;
+use py_tokens::{LexFault, Spot};
 use std::alloc::{AllocError, Global};
 
 /// The characters of a text with their places, each line end as one LF, and the place just after
@@ -55,7 +54,7 @@ fn checked(text: &[u8]) -> Result<&str, usize>
 }
 
 // The text of bytes in UTF-8.
-fn as_text(bytes: &[u8]) -> &str
+pub fn as_text(bytes: &[u8]) -> &str
     requires { IsUtf8 bytes.now }
     ensures { result.now ≡ bytes.now }
 {
@@ -115,6 +114,21 @@ fn after_one(place: Place, code: char) -> Place
             col: place.col + 1,
         }
     }
+}
+
+/// The place just after characters that begin at a place.
+pub fn place_after(place: Place, codes: &[char]) -> Place
+    requires line { place.line + length codes.now < 2 ^ 32 }
+    requires col { place.col + length codes.now < 2 ^ 32 }
+    ensures { result ≡ after place codes.now }
+{
+    let mut end = place;
+    let mut rest = codes;
+    'codes: while let [c, more @ ..] = rest {
+        rest = more;
+        end = after_one(end, *c);
+    }
+    end
 }
 
 fn place_all(alloc: Global, codes: &[char]) -> Result<TextSpots, AllocError>

@@ -1,0 +1,4 @@
+pub mod LongestForms
+pub mod PieceForms
+pub mod StringReading
+pub mod Walk
