@@ -4,3 +4,7 @@ pub mod StmtGrammar
 pub mod ModuleGrammar
 pub mod Spelling
 pub mod Nesting
+pub mod Symbols
+pub mod Makers
+pub mod Moves
+pub mod Machine
