@@ -1,2 +1,4 @@
 pub mod Rows
 pub mod Follows
+pub mod Starts
+pub mod WholeExpr
