@@ -125,12 +125,12 @@ un_never_skips p (forms.Mark marks.OpenParen) h = cc
 un_never_skips p (forms.Mark marks.Minus) h = cc
 un_never_skips p _ h = cc
 
-then_never_skips : (m : Move) (zs : List Sym) → (m ≡ skip → ⊥) → and_then m zs ≡ skip → ⊥
+pub then_never_skips : (m : Move) (zs : List Sym) → (m ≡ skip → ⊥) → and_then m zs ≡ skip → ⊥
 then_never_skips (take ys vs) zs n h = cc
 then_never_skips skip zs n h = n refl
 then_never_skips stop zs n h = cc
 
-took_not_skipped : (ys : List Sym) (vs : List Value) → take ys vs ≡ skip → ⊥
+pub took_not_skipped : (ys : List Sym) (vs : List Value) → take ys vs ≡ skip → ⊥
 took_not_skipped ys vs h = cc
 
 pub neg_never_skips : (p : Place) (f : TokenForm) → next_neg p f ≡ skip → ⊥
