@@ -5,3 +5,5 @@ pub mod WholeExpr
 pub mod StmtStarts
 pub mod WholeStmt
 pub mod WholeModule
+pub mod Phrases
+pub mod SoundExpr
