@@ -7,3 +7,5 @@ pub mod WholeStmt
 pub mod WholeModule
 pub mod Phrases
 pub mod SoundExpr
+pub mod SoundStmt
+pub mod SoundModule

@@ -110,7 +110,10 @@ abbrev pub Row : Sym → Token → Move → Type 0
 Row X k m = (S : List Sym) (w : List Token) → Given m S k w → Gives m X S k w
 
 -- a symbol that does what another does, and then these
+pub row_at : (X Y : Sym) (zs : List Sym) (k : Token) (m : Move) → ((S : List Sym) (w : List Token) → Completes (Y ∷ zs ++ S) (k ∷ w) → Completes (X ∷ S) (k ∷ w)) → (m ≡ skip → ⊥) → Row Y k m → Row X k (and_then m zs)
+row_at X Y zs k (take ys vs) g n row S w c = g S w (row (zs ++ S) w (subst (λ (T : List Sym). Completes T w) (append_assoc ys zs S) c))
+row_at X Y zs k skip g n row S w c = absurd (n refl)
+row_at X Y zs k stop g n row S w c = tt
+
 pub row_via : (X Y : Sym) (zs : List Sym) (k : Token) (m : Move) → ((S : List Sym) (ts : List Token) → Completes (Y ∷ zs ++ S) ts → Completes (X ∷ S) ts) → (m ≡ skip → ⊥) → Row Y k m → Row X k (and_then m zs)
-row_via X Y zs k (take ys vs) g n row S w c = g S (k ∷ w) (row (zs ++ S) w (subst (λ (T : List Sym). Completes T w) (append_assoc ys zs S) c))
-row_via X Y zs k skip g n row S w c = absurd (n refl)
-row_via X Y zs k stop g n row S w c = tt
+row_via X Y zs k m g n row = row_at X Y zs k m (λ S w c. g S (k ∷ w) c) n row

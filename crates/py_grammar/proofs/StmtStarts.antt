@@ -100,7 +100,7 @@ stmt_starts (try_of h c b x xs o l) = stmt_at h refl
 stmt_starts (finally_of h c b k d l) = stmt_at h refl
 stmt_starts (with_of h e c b) = stmt_at h refl
 
-simple_never_skips : (p : Place) (f : TokenForm) → next_simple p f ≡ skip → ⊥
+pub simple_never_skips : (p : Place) (f : TokenForm) → next_simple p f ≡ skip → ⊥
 simple_never_skips p (forms.Key keys.Pass) h = cc
 simple_never_skips p (forms.Key keys.Break) h = cc
 simple_never_skips p (forms.Key keys.Continue) h = cc
@@ -109,7 +109,7 @@ simple_never_skips p (forms.Key keys.Raise) h = cc
 simple_never_skips p (forms.Key keys.Assert) h = cc
 simple_never_skips p f h = then_never_skips (next_neg p f) (tail_and ∷ tail_or ∷ simple_tail p ∷ []) (neg_never_skips p f) h
 
-stmt_never_skips : (p : Place) (f : TokenForm) → next_stmt p f ≡ skip → ⊥
+pub stmt_never_skips : (p : Place) (f : TokenForm) → next_stmt p f ≡ skip → ⊥
 stmt_never_skips p (forms.Key keys.If) h = cc
 stmt_never_skips p (forms.Key keys.While) h = cc
 stmt_never_skips p (forms.Key keys.Try) h = cc
