@@ -9,3 +9,5 @@ pub mod Phrases
 pub mod SoundExpr
 pub mod SoundStmt
 pub mod SoundModule
+pub mod Defaults
+pub mod Sound

@@ -3,4 +3,4 @@
 
 mod laws;
 
-pub use laws::one_tree;
+pub use laws::{one_tree, the_machine_reads_the_grammar};
