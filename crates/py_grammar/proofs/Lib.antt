@@ -11,3 +11,4 @@ pub mod SoundStmt
 pub mod SoundModule
 pub mod Defaults
 pub mod Sound
+pub mod SmallModules

@@ -8,3 +8,4 @@ pub mod Symbols
 pub mod Makers
 pub mod Moves
 pub mod Machine
+pub mod SmallModules
