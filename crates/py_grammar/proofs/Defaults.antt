@@ -1,5 +1,5 @@
 -- Each symbol can be completed.
-use Rattle.std.proofs.Common.{ℕ, ◌≡◌, refl, List, [], ◌∷◌, ◌++◌, None}
+use Rattle.std.proofs.Common.{refl, List, [], ◌∷◌, None}
 use Rattle.py_base.specs.declared.Place.{Place}
 use Rattle.py_tokens.specs.declared.Token.{Token}
 use Rattle.py_tokens.specs.declared.TokenForm.{TokenForm}
@@ -8,11 +8,11 @@ use Rattle.py_tokens.specs.declared.Keyword.TheVariants as keys
 use Rattle.py_tokens.specs.declared.Mark.TheVariants as marks
 use Rattle.raw_syntax.specs.declared.RawExpr.{RawExpr}
 use Rattle.raw_syntax.specs.declared.Comparison.TheVariants as compares
-use Rattle.py_grammar.specs.ExprGrammar.{ReadsExpr, only_conj, ReadsNeg, only_neg, only_cmp, ReadsSum, only_sum, no_link, only_prod, ReadsUn, only_un, only_post, only_atom, no_arg, args_end, arg_value, name, unit, bracket, no_element, elements_end, is_same}
-use Rattle.py_grammar.specs.StmtGrammar.{type_name, only_head, ReadsSimple, pass, return, eval, ReadsStmt, simple as simple_line, finally_of, ReadsBlock, one_line, stmts_end, no_elif, no_else, no_finally, no_handler}
+use Rattle.py_grammar.specs.ExprGrammar.{only_cmp, only_sum, no_link, only_prod, ReadsUn, only_un, only_post, only_atom, no_arg, args_end, arg_value, name, unit, bracket, no_element, elements_end, is_same}
+use Rattle.py_grammar.specs.StmtGrammar.{type_name, only_head, pass, return, eval, simple as simple_line, finally_of, one_line, stmts_end, no_elif, no_else, no_finally, no_handler}
 use Rattle.py_grammar.specs.ModuleGrammar.{only_name, no_param, params_end, no_decorator, no_doc, members_end, pass_body, no_base, empty_base, base_name, no_dot, no_comma, all_names, no_import, no_item}
 use Rattle.py_grammar.specs.Symbols.{form_of, Sym, fixed, make, want_name, neg, un, tail_post, tail_prod, tail_sum, tail_cmp, is_tail, links, tail_and, tail_or, in_bracket, bracket_tail, elements, elements_tail, args, arg_tail, args_tail, ty_atom, ty_tail, simple, return_tail, simple_tail, stmt, block, stmts, elifs, else_part, finally_part, try_tail, handlers, params, param_tail, params_tail, decorators, members, class_body, doc, base, in_base, base_tail, any_name, dots, commas, imported, imports, items}
-use Rattle.py_grammar.proofs.Phrases.{Phrase, Completes, tok}
+use Rattle.py_grammar.proofs.Phrases.{Completes, tok}
 
 o : Place
 o = record { line = 1; col = 1 }

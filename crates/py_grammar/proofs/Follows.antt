@@ -7,9 +7,9 @@ use Rattle.py_tokens.specs.declared.TokenForm.TheVariants as forms
 use Rattle.py_tokens.specs.declared.Keyword.TheVariants as keys
 use Rattle.py_tokens.specs.declared.Mark.TheVariants as marks
 use Rattle.py_grammar.specs.TokenFronts.{Has}
-use Rattle.py_grammar.specs.Symbols.{Value, Sym, make, un, neg, tail_post, tail_prod, tail_sum, tail_cmp, tail_and, tail_or, is_tail, links, bracket_tail, elements_tail, arg_tail, args_tail, simple_tail, in_bracket, elements, args, simple, return_tail, Move, take, skip, stop}
-use Rattle.py_grammar.specs.Makers.{make_not, make_link, make_element, make_value_return}
-use Rattle.py_grammar.specs.Moves.{next, made, and_then, starts_expr, next_un, next_neg, next_expr, next_post, next_prod, next_sum, next_link, next_and, next_or, next_is, next_in_bracket, next_elements, next_args, next_simple, next_return}
+use Rattle.py_grammar.specs.Symbols.{Value, Sym, make, neg, tail_post, tail_prod, tail_sum, tail_cmp, tail_and, tail_or, links, bracket_tail, elements_tail, arg_tail, args_tail, Move, take, skip, stop}
+use Rattle.py_grammar.specs.Makers.{make_not, make_link, make_element}
+use Rattle.py_grammar.specs.Moves.{made, and_then, starts_expr, next_un, next_neg, next_post, next_prod, next_sum, next_link, next_and, next_or, next_is, next_in_bracket, next_elements, next_args}
 use Rattle.py_grammar.proofs.Rows.{To, skipped}
 use Rattle.raw_syntax.specs.declared.Comparison.TheVariants as compares
 

@@ -1,6 +1,6 @@
 -- What each symbol wants, without the values: a symbol of what may follow a part says that whatever such part stands
 -- before, some longer part ends here.
-use Rattle.std.proofs.Common.{ℕ, ◌≡◌, refl, sym, List, [], ◌∷◌, ◌++◌, subst, append_assoc, Option}
+use Rattle.std.proofs.Common.{ℕ, ◌≡◌, refl, List, [], ◌∷◌, ◌++◌, subst, append_assoc, Option}
 use Rattle.py_base.specs.declared.Place.{Place}
 use Rattle.py_tokens.specs.declared.Token.{Token}
 use Rattle.py_tokens.specs.declared.TokenForm.{TokenForm}
@@ -22,7 +22,7 @@ use Rattle.py_grammar.specs.TokenFronts.{Has, Past, PastName, BeginsAt}
 use Rattle.py_grammar.specs.ExprGrammar.{ReadsExpr, ReadsConj, ReadsNeg, ReadsCmp, ReadsLinks, ReadsSum, ReadsProd, ReadsUn, ReadsPost, ReadsAtom, ReadsArgs, ReadsMoreArgs, ReadsArg, ReadsElements, ReadsMoreElements, ReadsComparison}
 use Rattle.py_grammar.specs.StmtGrammar.{ReadsTyAtom, ReadsTy, ReadsSimple, ReadsStmt, ReadsBlock, ReadsStmts, ReadsElifs, ReadsElse, ReadsFinally, ReadsHandlers}
 use Rattle.py_grammar.specs.ModuleGrammar.{ReadsParam, ReadsParams, ReadsMoreParams, ReadsDecorators, ReadsDoc, ReadsMembers, ReadsClassBody, ReadsBase, ReadsDots, ReadsCommas, ReadsImported, ReadsImports, ReadsItems}
-use Rattle.py_grammar.specs.Symbols.{Value, form_of, Sym, fixed, make, want_name, neg, un, tail_post, tail_prod, tail_sum, tail_cmp, is_tail, links, tail_and, tail_or, in_bracket, bracket_tail, elements, elements_tail, args, arg_tail, args_tail, ty_atom, ty_tail, simple, return_tail, simple_tail, stmt, block, stmts, elifs, else_part, finally_part, try_tail, handlers, params, param_tail, params_tail, decorators, members, class_body, doc, base, in_base, base_tail, any_name, dots, commas, imported, imports, items, Move, take, skip, stop}
+use Rattle.py_grammar.specs.Symbols.{form_of, Sym, fixed, make, want_name, neg, un, tail_post, tail_prod, tail_sum, tail_cmp, is_tail, links, tail_and, tail_or, in_bracket, bracket_tail, elements, elements_tail, args, arg_tail, args_tail, ty_atom, ty_tail, simple, return_tail, simple_tail, stmt, block, stmts, elifs, else_part, finally_part, try_tail, handlers, params, param_tail, params_tail, decorators, members, class_body, doc, base, in_base, base_tail, any_name, dots, commas, imported, imports, items, Move, take, skip, stop}
 use Rattle.py_grammar.specs.Moves.{and_then}
 
 -- the links of a chain, of which there is at least one

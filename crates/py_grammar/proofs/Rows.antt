@@ -1,5 +1,5 @@
 -- What the machine does at a symbol, from what its table says.
-use Rattle.std.proofs.Common.{ℕ, Bool, true, false, ◌≡◌, refl, sym, ◌∙◌, List, [], ◌∷◌, ◌++◌, Some, None, ap, subst, append_assoc}
+use Rattle.std.proofs.Common.{◌≡◌, refl, sym, ◌∙◌, List, [], ◌∷◌, ◌++◌, Some, None, ap, subst, append_assoc}
 use Rattle.py_base.specs.declared.Place.{Place}
 use Rattle.py_tokens.specs.declared.Token.{Token}
 use Rattle.py_tokens.specs.declared.TokenForm.{TokenForm}
@@ -13,7 +13,6 @@ pub record To (ts : List Token) (S : List Sym) (V : List Value) (us : List Token
   pub same : run ts S V ≡ run us T W
 
 infixr 30 ◌⊳◌
-
 pub ◌⊳◌ : {ts us xs : List Token} {S T U : List Sym} {V W Y : List Value} → To ts S V us T W → To us T W xs U Y → To ts S V xs U Y
 a ⊳ b = record { same = a.same ∙ b.same }
 

@@ -1,5 +1,5 @@
 -- What the machine has not refused can go on to a module, and what it reads to the end is spelled.
-use Rattle.std.proofs.Common.{ℕ, ◌≡◌, arith, refl, sym, ◌∙◌, List, [], ◌∷◌, ◌++◌, ap, subst, Option, Some, None, append_assoc}
+use Rattle.std.proofs.Common.{◌≡◌, arith, refl, sym, ◌∙◌, List, [], ◌∷◌, ◌++◌, ap, subst, Option, Some, None, append_assoc}
 use Rattle.py_base.specs.declared.Place.{Place}
 use Rattle.py_tokens.specs.declared.Token.{Token}
 use Rattle.py_tokens.specs.declared.TokenForm.{TokenForm}

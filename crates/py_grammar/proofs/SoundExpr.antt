@@ -1,5 +1,5 @@
 -- A step at a symbol of expressions, back from what completes the rest.
-use Rattle.std.proofs.Common.{ℕ, ◌≡◌, refl, List, [], ◌∷◌, ◌++◌, true, false}
+use Rattle.std.proofs.Common.{refl, List, [], ◌∷◌, ◌++◌}
 use Rattle.py_base.specs.declared.Place.{Place}
 use Rattle.py_tokens.specs.declared.Token.{Token}
 use Rattle.py_tokens.specs.declared.TokenForm.{TokenForm}
@@ -9,13 +9,12 @@ use Rattle.py_tokens.specs.declared.Mark.TheVariants as marks
 use Rattle.raw_syntax.specs.declared.RawExpr.{RawExpr}
 use Rattle.raw_syntax.specs.declared.Comparison.{Comparison}
 use Rattle.raw_syntax.specs.declared.Comparison.TheVariants as compares
-use Rattle.py_grammar.specs.TokenFronts.{Has}
-use Rattle.py_grammar.specs.ExprGrammar.{ReadsExpr, only_conj, or_of, ReadsConj, only_neg, and_of, ReadsNeg, not_of, only_cmp, ReadsCmp, only_sum, chain_of, ReadsLinks, no_link, link_more, ReadsSum, only_prod, plus_of, minus_of, ReadsProd, only_un, times_of, divide_of, floor_of, modulo_of, ReadsUn, negate_of, only_post, ReadsPost, only_atom, field_of, call_of, ReadsArgs, no_arg, arg_more, ReadsMoreArgs, args_end, args_comma, ReadsArg, arg_value, arg_named, ReadsAtom, number, true_word, false_word, none_word, name, string, unit, bracket, tuple, ReadsElements, no_element, element_more, ReadsMoreElements, elements_end, elements_comma, ReadsComparison, less, less_equal, greater, greater_equal, equal, not_equal, is_same, is_not}
-use Rattle.py_grammar.specs.Symbols.{Value, vlinks, Sym, make, neg, un, tail_post, tail_prod, tail_sum, tail_cmp, is_tail, links, tail_and, tail_or, in_bracket, bracket_tail, elements, elements_tail, args, arg_tail, args_tail, Move, take, skip, stop}
+use Rattle.py_grammar.specs.ExprGrammar.{ReadsExpr, only_conj, or_of, ReadsConj, only_neg, and_of, not_of, only_cmp, only_sum, chain_of, no_link, link_more, ReadsSum, only_prod, plus_of, minus_of, ReadsProd, only_un, times_of, divide_of, floor_of, modulo_of, negate_of, only_post, only_atom, field_of, call_of, no_arg, arg_more, args_end, args_comma, arg_value, arg_named, ReadsAtom, number, true_word, false_word, none_word, name, string, unit, bracket, tuple, no_element, element_more, elements_end, elements_comma, ReadsComparison, less, less_equal, greater, greater_equal, equal, not_equal, is_same, is_not}
+use Rattle.py_grammar.specs.Symbols.{vlinks, Sym, make, neg, un, tail_post, tail_prod, tail_sum, tail_cmp, is_tail, links, tail_and, tail_or, in_bracket, bracket_tail, elements, elements_tail, args, arg_tail, args_tail}
 use Rattle.py_grammar.specs.Makers.{make_link, make_element}
 use Rattle.py_grammar.specs.Moves.{next_un, next_neg, next_post, next_prod, next_sum, next_link, next_is, next_and, next_or, next_in_bracket, next_bracket, next_elements, next_element, next_args, next_arg_tail, next_args_tail, compare_with}
 use Rattle.py_grammar.proofs.Follows.{un_never_skips, neg_never_skips}
-use Rattle.py_grammar.proofs.Phrases.{Linked, Phrase, Then, Completes, tok, Row, row_via}
+use Rattle.py_grammar.proofs.Phrases.{Linked, Completes, tok, Row, row_via}
 
 -- an expression, and then what the symbols want
 abbrev pub ExprThen : List Sym → List Token → Type 0

@@ -1,5 +1,5 @@
 -- A step at a symbol of functions, classes and modules, back from what completes the rest.
-use Rattle.std.proofs.Common.{ℕ, ◌≡◌, refl, List, [], ◌∷◌, ◌++◌, None}
+use Rattle.std.proofs.Common.{ℕ, refl, List, [], ◌∷◌, ◌++◌, None}
 use Rattle.py_base.specs.declared.Place.{Place}
 use Rattle.py_tokens.specs.declared.Token.{Token}
 use Rattle.py_tokens.specs.declared.TokenForm.{TokenForm}
@@ -12,7 +12,7 @@ use Rattle.py_grammar.specs.ModuleGrammar.{only_name, typed_name, no_param, para
 use Rattle.py_grammar.specs.Symbols.{Sym, make, params, param_tail, params_tail, decorators, members, class_body, doc, base, in_base, base_tail, any_name, dots, commas, imported, imports, items}
 use Rattle.py_grammar.specs.Makers.{make_member, make_item}
 use Rattle.py_grammar.specs.Moves.{func_with, next_params, next_param_tail, next_params_tail, next_decorators, next_members, next_class_body, next_doc, next_base, next_in_base, next_base_tail, next_any_name, next_dots, next_commas, next_imported, next_imports, next_items}
-use Rattle.py_grammar.proofs.Phrases.{Phrase, Then, Completes, tok, Row}
+use Rattle.py_grammar.proofs.Phrases.{Completes, tok, Row}
 
 -- functions
 pub row_params : (p e : Place) (f : TokenForm) → Row params (tok p e f) (next_params p f)

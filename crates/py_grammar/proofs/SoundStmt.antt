@@ -1,5 +1,5 @@
 -- A step at a symbol of types and statements, back from what completes the rest.
-use Rattle.std.proofs.Common.{ℕ, Bool, true, false, ◌≡◌, refl, List, [], ◌∷◌, ◌++◌, ap, if◌then◌else◌}
+use Rattle.std.proofs.Common.{Bool, true, false, ◌≡◌, refl, List, [], ◌∷◌, ap, if◌then◌else◌}
 use Rattle.py_base.specs.declared.Place.{Place}
 use Rattle.py_tokens.specs.declared.Token.{Token}
 use Rattle.py_tokens.specs.declared.TokenForm.{TokenForm}
@@ -8,12 +8,12 @@ use Rattle.py_tokens.specs.declared.Keyword.TheVariants as keys
 use Rattle.py_tokens.specs.declared.Mark.TheVariants as marks
 use Rattle.py_grammar.specs.TokenFronts.{Has}
 use Rattle.py_grammar.specs.StmtGrammar.{type_name, type_string, type_none, only_head, head_of, plus_assign, minus_assign, times_assign, floor_assign, modulo_assign, pass, break, continue, return, raise, return_value, assert, eval, declare, assign as assign_to, augment, simple as simple_line, if_of, while_of, try_of, finally_of, with_of, one_line, lines, stmts_end, stmt_more, no_elif, elif_more, no_else, else_of, no_finally, finally_block, except_of, no_handler, handler_more}
-use Rattle.py_grammar.specs.Symbols.{Value, Fixed, newline, indent, colon, assign, arrow, open_paren, close_paren, close_bracket, word_def, word_import, form_of, fits, Sym, fixed, make, want_name, neg, tail_and, tail_or, ty_atom, ty_tail, simple, return_tail, simple_tail, stmt, block, stmts, elifs, else_part, finally_part, try_tail, handlers, Move, take, skip, stop}
+use Rattle.py_grammar.specs.Symbols.{Fixed, newline, indent, colon, assign, arrow, open_paren, close_paren, close_bracket, word_def, word_import, form_of, fits, Sym, fixed, make, want_name, neg, tail_and, tail_or, ty_atom, ty_tail, simple, return_tail, simple_tail, stmt, block, stmts, elifs, else_part, finally_part, try_tail, handlers, take, skip, stop}
 use Rattle.py_grammar.specs.Makers.{make_only, make_next, make_value_return}
 use Rattle.py_grammar.specs.Moves.{starts_expr, next_name, next_neg, next_expr, next_ty_atom, next_ty_tail, next_simple, next_return, next_simple_tail, next_stmt, next_block, next_stmts, next_elifs, next_else, next_finally, next_try, next_handlers}
 use Rattle.py_grammar.proofs.Follows.{neg_never_skips, impossible}
 use Rattle.py_grammar.proofs.StmtStarts.{simple_never_skips, stmt_never_skips}
-use Rattle.py_grammar.proofs.Phrases.{Phrase, Then, Completes, tok, Row, row_at, row_via}
+use Rattle.py_grammar.proofs.Phrases.{Completes, tok, Row, row_at, row_via}
 use Rattle.py_grammar.proofs.SoundExpr.{ExprThen, an_expr, row_neg}
 
 -- tokens

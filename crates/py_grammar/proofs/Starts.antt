@@ -1,23 +1,22 @@
 -- The first token of an expression, and what the machine does where one begins.
-use Rattle.std.proofs.Common.{ℕ, Bool, true, false, ◌≡◌, ◌≤◌, arith, refl, List, [], ◌∷◌, ◌++◌}
+use Rattle.std.proofs.Common.{true, ◌≡◌, ◌≤◌, arith, refl, List, [], ◌∷◌, ◌++◌}
 use Rattle.py_base.specs.declared.Place.{Place}
 use Rattle.py_tokens.specs.declared.Token.{Token}
 use Rattle.py_tokens.specs.declared.TokenForm.{TokenForm}
 use Rattle.py_tokens.specs.declared.TokenForm.TheVariants as forms
 use Rattle.py_tokens.specs.declared.Keyword.TheVariants as keys
-use Rattle.py_tokens.specs.declared.Mark.TheVariants as marks
 use Rattle.raw_syntax.specs.declared.RawExpr.{RawExpr}
 use Rattle.raw_syntax.specs.declared.RawArgument.{RawArgument}
 use Rattle.raw_syntax.specs.declared.RawComparison.{RawComparison}
 use Rattle.raw_syntax.specs.declared.Comparison.{Comparison}
 use Rattle.raw_syntax.specs.declared.Comparison.TheVariants as compares
-use Rattle.py_grammar.specs.TokenFronts.{Has, Past}
+use Rattle.py_grammar.specs.TokenFronts.{Has}
 use Rattle.py_grammar.specs.ExprGrammar.{ReadsExpr, only_conj, or_of, ReadsConj, only_neg, and_of, ReadsNeg, not_of, only_cmp, ReadsCmp, only_sum, chain_of, ReadsLinks, no_link, link_more, ReadsSum, only_prod, plus_of, minus_of, ReadsProd, only_un, times_of, divide_of, floor_of, modulo_of, ReadsUn, negate_of, only_post, ReadsPost, only_atom, field_of, call_of, ReadsArg, arg_value, arg_named, ReadsMoreArgs, args_end, args_comma, ReadsMoreElements, elements_end, elements_comma, ReadsAtom, number, true_word, false_word, none_word, name, string, unit, bracket, tuple, ReadsComparison, less, less_equal, greater, greater_equal, equal, not_equal, is_same, is_not}
-use Rattle.py_grammar.specs.Symbols.{Value, vlinks, Sym, make, un, neg, tail_prod, tail_sum, tail_cmp, tail_and, tail_or, is_tail, links, bracket_tail, elements_tail, arg_tail, args_tail, in_bracket, elements, args, skip}
+use Rattle.py_grammar.specs.Symbols.{Value, Sym, make, un, neg, tail_prod, tail_sum, tail_cmp, tail_and, tail_or, is_tail, links, bracket_tail, elements_tail, arg_tail, args_tail, in_bracket, elements, args, skip}
 use Rattle.py_grammar.specs.Makers.{make_link, make_element}
-use Rattle.py_grammar.specs.Moves.{next, starts_expr, next_link, compare_with, next_arg_tail}
+use Rattle.py_grammar.specs.Moves.{next, starts_expr, next_link, next_arg_tail}
 use Rattle.py_grammar.proofs.Rows.{To, ◌⊳◌, took, expands}
-use Rattle.py_grammar.proofs.Follows.{Stops, stops, weaker, strength, starts_un, StartsUn, StartsExpr, un_never_skips, neg_never_skips, neg_opens, is_opens, bracket_opens, elements_open, args_open, impossible}
+use Rattle.py_grammar.proofs.Follows.{Stops, stops, weaker, strength, starts_un, StartsUn, StartsExpr, un_never_skips, neg_never_skips, neg_opens, is_opens, bracket_opens, elements_open, args_open}
 
 un_at : {p : Place} {f : TokenForm} {ts r : List Token} → Has p f ts r → starts_un f ≡ true → StartsUn ts
 un_at {p} {f} {ts} {r} h b = (p, f, r, h, b)

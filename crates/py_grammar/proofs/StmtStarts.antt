@@ -1,20 +1,18 @@
 -- The first token of a statement, and what the machine does where one begins.
-use Rattle.std.proofs.Common.{ℕ, Bool, true, false, ◌≡◌, ◌≤◌, arith, refl, sym, ◌∙◌, List, [], ◌∷◌, ◌++◌, ap, subst, if◌then◌else◌}
+use Rattle.std.proofs.Common.{Bool, true, false, ◌≡◌, refl, sym, ◌∙◌, List, [], ◌∷◌, ap, subst, if◌then◌else◌}
 use Rattle.py_base.specs.declared.Place.{Place}
 use Rattle.py_tokens.specs.declared.Token.{Token}
 use Rattle.py_tokens.specs.declared.TokenForm.{TokenForm}
 use Rattle.py_tokens.specs.declared.TokenForm.TheVariants as forms
 use Rattle.py_tokens.specs.declared.Keyword.TheVariants as keys
-use Rattle.py_tokens.specs.declared.Mark.TheVariants as marks
 use Rattle.raw_syntax.specs.declared.RawStmt.{RawStmt}
-use Rattle.py_grammar.specs.TokenFronts.{Has, Past, BeginsAt}
-use Rattle.py_grammar.specs.ExprGrammar.{ReadsExpr}
+use Rattle.py_grammar.specs.TokenFronts.{Has, BeginsAt}
 use Rattle.py_grammar.specs.StmtGrammar.{ReadsSimple, pass, break, continue, return, return_value, raise, assert, eval, declare, assign, augment, ReadsStmt, simple as simple_line, if_of, while_of, try_of, finally_of, with_of, ReadsStmts, stmts_end, stmt_more, ReadsElse, no_else, else_of, ReadsFinally, no_finally, finally_block}
-use Rattle.py_grammar.specs.Symbols.{Value, Sym, fixed, newline, make, neg, tail_and, tail_or, simple, simple_tail, return_tail, stmt, block, stmts, elifs, else_part, finally_part, handlers, Move, take, skip, stop}
+use Rattle.py_grammar.specs.Symbols.{Value, Sym, fixed, newline, make, neg, tail_and, tail_or, simple, simple_tail, return_tail, stmt, block, stmts, elifs, else_part, finally_part, handlers, skip}
 use Rattle.py_grammar.specs.Makers.{make_only, make_next, make_value_return}
 use Rattle.py_grammar.specs.Moves.{next, made, and_then, starts_expr, next_neg, next_expr, next_simple, next_return, next_stmt, next_block, next_stmts, next_elifs, next_else, next_finally, next_handlers}
-use Rattle.py_grammar.proofs.Rows.{To, ◌⊳◌, took, skipped, expands}
-use Rattle.py_grammar.proofs.Follows.{StartsExpr, neg_never_skips, then_never_skips, took_not_skipped, impossible}
+use Rattle.py_grammar.proofs.Rows.{To, skipped, expands}
+use Rattle.py_grammar.proofs.Follows.{StartsExpr, neg_never_skips, then_never_skips, impossible}
 use Rattle.py_grammar.proofs.Starts.{expr_starts}
 
 -- The first token isn't wanted at the symbol.
@@ -160,7 +158,7 @@ same_place p q e f ts r s k a b c =
 pub simple_as : {S : List Sym} {V : List Value} {ts : List Token} (p : Place) → BeginsAt p ts → StartsExpr ts → To ts (simple ∷ S) V ts (neg ∷ tail_and ∷ tail_or ∷ simple_tail p ∷ S) V
 simple_as {S} {V} {ts} p (k, s, e1, e2) (q, f, r, (e, h), b) =
     subst (λ (x : Place). To ts (simple ∷ S) V ts (neg ∷ tail_and ∷ tail_or ∷ simple_tail x ∷ S) V) (same_place p q e f ts r s k h e1 e2)
-      (expands neg (tail_and ∷ tail_or ∷ simple_tail q ∷ []) (e, h) (simple_opens q f b) (neg_never_skips q f))
+    (expands neg (tail_and ∷ tail_or ∷ simple_tail q ∷ []) (e, h) (simple_opens q f b) (neg_never_skips q f))
 
 pub return_as : {S : List Sym} {V : List Value} {ts : List Token} (q : Place) → StartsExpr ts → To ts (return_tail q ∷ S) V ts (neg ∷ tail_and ∷ tail_or ∷ make (make_value_return q) ∷ S) V
 return_as q (p, f, r, h, b) = expands neg (tail_and ∷ tail_or ∷ make (make_value_return q) ∷ []) h (return_opens q p f b) (neg_never_skips p f)

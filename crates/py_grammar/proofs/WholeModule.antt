@@ -1,5 +1,5 @@
 -- What spells a function, a class or a module is read by the machine, so a list of tokens spells at most one tree.
-use Rattle.std.proofs.Common.{ℕ, ◌≡◌, ◌≤◌, arith, refl, sym, ◌∙◌, List, [], ◌∷◌, ◌++◌, ap, append_assoc, Option}
+use Rattle.std.proofs.Common.{ℕ, ◌≡◌, refl, sym, ◌∙◌, List, [], ◌∷◌, ◌++◌, ap, append_assoc, Option}
 use Rattle.std.proofs.lemmas.List.{append-nil}
 use Rattle.py_base.specs.declared.Place.{Place}
 use Rattle.py_tokens.specs.declared.Token.{Token}
@@ -10,15 +10,14 @@ use Rattle.raw_syntax.specs.declared.RawTy.{RawTy}
 use Rattle.raw_syntax.specs.declared.RawStmt.{RawStmt}
 use Rattle.raw_syntax.specs.declared.RawParam.{RawParam}
 use Rattle.raw_syntax.specs.declared.RawFunc.{RawFunc}
-use Rattle.raw_syntax.specs.declared.RawClass.{RawClass}
 use Rattle.raw_syntax.specs.declared.RawItem.{RawItem}
 use Rattle.raw_syntax.specs.declared.RawItem.TheVariants as things
 use Rattle.raw_syntax.specs.declared.Raw.{Raw}
-use Rattle.py_grammar.specs.TokenFronts.{Has, Past, PastName}
+use Rattle.py_grammar.specs.TokenFronts.{Has, Past}
 use Rattle.py_grammar.specs.StmtGrammar.{ReadsTy, ReadsBlock}
-use Rattle.py_grammar.specs.ModuleGrammar.{function, ReadsParam, only_name, typed_name, ReadsParams, no_param, param_more, ReadsMoreParams, params_end, params_comma, ReadsDecorators, no_decorator, decorator_more, ReadsFunc, def_of, ReadsDoc, no_doc, doc_line, ReadsMembers, members_end, pass_member, func_member, ReadsClassBody, pass_body, member_lines, ReadsBase, no_base, empty_base, base_name, base_of, ReadsClass, class_with, ReadsDots, no_dot, dot_more, ReadsCommas, no_comma, comma_more, ReadsImported, all_names, some_names, ReadsImports, no_import, import_more, ReadsItems, no_item, class_item, func_item, ReadsModule, module_with}
+use Rattle.py_grammar.specs.ModuleGrammar.{function, ReadsParam, only_name, typed_name, ReadsParams, no_param, param_more, ReadsMoreParams, params_end, params_comma, ReadsDecorators, no_decorator, decorator_more, ReadsFunc, def_of, ReadsDoc, no_doc, doc_line, ReadsMembers, members_end, pass_member, func_member, ReadsClassBody, pass_body, member_lines, ReadsBase, no_base, empty_base, base_name, base_of, class_with, ReadsDots, no_dot, dot_more, ReadsCommas, no_comma, comma_more, ReadsImported, all_names, some_names, ReadsImports, no_import, import_more, ReadsItems, no_item, class_item, func_item, ReadsModule, module_with}
 use Rattle.py_grammar.specs.Spelling.{Spells}
-use Rattle.py_grammar.specs.Symbols.{Value, vname, vparams, vmarks, vfunc, vfuncs, vbase, vitems, vmodule, Sym, fixed, newline, word_def, make, ty_tail, params, param_tail, params_tail, decorators, members, class_body, doc, base, any_name, dots, commas, imported, imports, items, take, skip}
+use Rattle.py_grammar.specs.Symbols.{Value, vparams, vmarks, vfunc, vfuncs, vbase, vitems, vmodule, Sym, fixed, word_def, make, ty_tail, params, param_tail, params_tail, decorators, members, class_body, doc, base, dots, commas, imported, imports, items, take, skip}
 use Rattle.py_grammar.specs.Makers.{make_item, make_member}
 use Rattle.py_grammar.specs.Moves.{next, func_with, decorator_with}
 use Rattle.py_grammar.specs.Machine.{Out, done, run, run_module}

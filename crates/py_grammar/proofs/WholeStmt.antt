@@ -1,5 +1,5 @@
 -- What spells a type, a statement or a block is read by the machine.
-use Rattle.std.proofs.Common.{ℕ, ◌≡◌, ◌≤◌, arith, refl, sym, List, [], ◌∷◌, ◌++◌, ap, append_assoc}
+use Rattle.std.proofs.Common.{ℕ, ◌≡◌, arith, refl, sym, List, [], ◌∷◌, ◌++◌, ap, append_assoc}
 use Rattle.std.proofs.lemmas.List.{append-nil}
 use Rattle.py_base.specs.declared.Place.{Place}
 use Rattle.py_tokens.specs.declared.Token.{Token}
@@ -11,8 +11,8 @@ use Rattle.raw_syntax.specs.declared.RawStmt.{RawStmt}
 use Rattle.raw_syntax.specs.declared.RawElif.{RawElif}
 use Rattle.raw_syntax.specs.declared.RawHandler.{RawHandler}
 use Rattle.py_grammar.specs.TokenFronts.{Past}
-use Rattle.py_grammar.specs.StmtGrammar.{elif_part, handler, ReadsTyAtom, type_name, type_string, type_none, ReadsTy, only_head, head_of, ReadsAug, plus_assign, minus_assign, times_assign, floor_assign, modulo_assign, ReadsSimple, pass, break, continue, return, return_value, raise, assert, eval, declare, assign, augment, ReadsStmt, simple as simple_line, if_of, while_of, try_of, finally_of, with_of, ReadsBlock, one_line, lines, ReadsStmts, stmts_end, stmt_more, ReadsElifs, no_elif, elif_more, ReadsElse, no_else, else_of, ReadsFinally, no_finally, finally_block, ReadsHandler, except_of, ReadsHandlers, no_handler, handler_more}
-use Rattle.py_grammar.specs.Symbols.{Value, vexpr, vname, vty, vstmt, vstmts, velifs, vhandlers, Sym, fixed, newline, make, neg, tail_and, tail_or, ty_atom, ty_tail, simple, return_tail, simple_tail, stmt, block, stmts, elifs, else_part, finally_part, try_tail, handlers, take, skip}
+use Rattle.py_grammar.specs.StmtGrammar.{elif_part, ReadsTyAtom, type_name, type_string, type_none, ReadsTy, only_head, head_of, ReadsAug, plus_assign, minus_assign, times_assign, floor_assign, modulo_assign, ReadsSimple, pass, break, continue, return, return_value, raise, assert, eval, declare, assign, augment, ReadsStmt, simple as simple_line, if_of, while_of, try_of, finally_of, with_of, ReadsBlock, one_line, lines, ReadsStmts, stmts_end, stmt_more, ReadsElifs, no_elif, elif_more, ReadsElse, no_else, else_of, ReadsFinally, no_finally, finally_block, ReadsHandler, except_of, ReadsHandlers, no_handler, handler_more}
+use Rattle.py_grammar.specs.Symbols.{Value, vname, vty, vstmt, vstmts, velifs, vhandlers, Sym, make, neg, tail_and, tail_or, ty_atom, ty_tail, simple, return_tail, simple_tail, stmt, block, stmts, elifs, else_part, finally_part, try_tail, handlers, take}
 use Rattle.py_grammar.specs.Makers.{make_augment, make_try}
 use Rattle.py_grammar.specs.Moves.{next, handler_with}
 use Rattle.py_grammar.proofs.Rows.{To, ◌⊳◌, took, makes, stays}

@@ -1,9 +1,8 @@
 -- Which tokens spell an expression: one relation for each line of the grammar and one case for each alternative. Each
 -- says that the tokens begin with a spelling of the tree, and which are left.
-use Rattle.std.specs.Prelude.{ℕ, ℤ, true, false, List, [], ◌∷◌, ◌≡◌}
+use Rattle.std.specs.Prelude.{ℕ, ℤ, true, false, List, [], ◌∷◌}
 use Rattle.py_base.specs.declared.Place.{Place}
 use Rattle.py_tokens.specs.declared.Token.{Token}
-use Rattle.py_tokens.specs.declared.TokenForm.{TokenForm}
 use Rattle.py_tokens.specs.declared.TokenForm.TheVariants as forms
 use Rattle.py_tokens.specs.declared.Keyword.TheVariants as keys
 use Rattle.py_tokens.specs.declared.Mark.TheVariants as marks

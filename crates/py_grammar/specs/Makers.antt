@@ -1,5 +1,5 @@
 -- What is made of the newest values.
-use Rattle.std.specs.Prelude.{ℕ, List, [], ◌∷◌, ◌++◌, Option, Some, None}
+use Rattle.std.specs.Prelude.{List, [], ◌∷◌, ◌++◌, Some, None}
 use Rattle.py_base.specs.declared.Place.{Place}
 use Rattle.raw_syntax.specs.declared.RawExprForm.TheVariants as exprs
 use Rattle.raw_syntax.specs.declared.RawArgument.TheVariants as arguments

@@ -1,6 +1,6 @@
 -- Which tokens spell a function, a class and a module: one relation for each line of the grammar and one case for each
 -- alternative. Imports, `pass` in a class and the docstrings of a module and of a class leave nothing in the tree.
-use Rattle.std.specs.Prelude.{ℕ, List, [], ◌∷◌, ◌≡◌, Option, Some, None}
+use Rattle.std.specs.Prelude.{ℕ, List, [], ◌∷◌, Option, Some, None}
 use Rattle.py_base.specs.declared.Place.{Place}
 use Rattle.py_tokens.specs.declared.Token.{Token}
 use Rattle.py_tokens.specs.declared.TokenForm.TheVariants as forms

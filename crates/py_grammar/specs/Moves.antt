@@ -1,5 +1,5 @@
 -- The machine's table: what each token does at each symbol.
-use Rattle.std.specs.Prelude.{ℕ, Bool, true, false, List, [], ◌∷◌, ◌++◌, Option, Some, None, if◌then◌else◌, codes}
+use Rattle.std.specs.Prelude.{Bool, true, false, List, [], ◌∷◌, ◌++◌, None, if◌then◌else◌, codes}
 use Rattle.py_base.specs.declared.Place.{Place}
 use Rattle.py_tokens.specs.declared.TokenForm.{TokenForm}
 use Rattle.py_tokens.specs.declared.TokenForm.TheVariants as forms
@@ -13,7 +13,7 @@ use Rattle.raw_syntax.specs.declared.Comparison.{Comparison}
 use Rattle.raw_syntax.specs.declared.Comparison.TheVariants as compares
 use Rattle.py_grammar.specs.ExprGrammar.{node}
 use Rattle.py_grammar.specs.StmtGrammar.{statement}
-use Rattle.py_grammar.specs.Symbols.{Value, vexpr, vargs, vlinks, vname, vstmt, vstmts, velifs, vhandlers, vparams, vmarks, vfuncs, vbase, Fixed, newline, indent, colon, assign, arrow, open_paren, close_paren, close_bracket, word_def, word_import, fits, Sym, fixed, make, want_name, neg, un, tail_post, tail_prod, tail_sum, tail_cmp, is_tail, links, tail_and, tail_or, in_bracket, bracket_tail, elements, elements_tail, args, arg_tail, args_tail, ty_atom, ty_tail, simple, return_tail, simple_tail, stmt, block, stmts, elifs, else_part, finally_part, try_tail, handlers, params, param_tail, params_tail, decorators, members, class_body, doc, base, in_base, base_tail, any_name, dots, commas, imported, imports, items, Move, take, skip, stop}
+use Rattle.py_grammar.specs.Symbols.{Value, vexpr, vargs, vlinks, vname, vstmt, vstmts, velifs, vhandlers, vparams, vmarks, vfuncs, vbase, newline, indent, colon, assign, arrow, open_paren, close_paren, close_bracket, word_def, word_import, fits, Sym, fixed, make, want_name, neg, un, tail_post, tail_prod, tail_sum, tail_cmp, is_tail, links, tail_and, tail_or, in_bracket, bracket_tail, elements, elements_tail, args, arg_tail, args_tail, ty_atom, ty_tail, simple, return_tail, simple_tail, stmt, block, stmts, elifs, else_part, finally_part, try_tail, handlers, params, param_tail, params_tail, decorators, members, class_body, doc, base, in_base, base_tail, any_name, dots, commas, imported, imports, items, Move, take, skip, stop}
 use Rattle.py_grammar.specs.Makers.{push, make_or, make_and, make_not, make_link, make_chain, make_binary, make_negate, make_field, make_call, make_value, make_named, make_bracket, make_first, make_element, make_tuple, make_head, make_inner, make_value_return, make_raise, make_assert, make_eval, make_declare, make_assign, make_augment, make_if, make_elif, make_while, make_with, make_try, make_try_finally, make_handler, make_only, make_next, make_param, make_typed_param, make_mark, make_func, make_member, make_base, make_base_of, make_class, make_item, make_module}
 
 -- Some expression begins with this token.

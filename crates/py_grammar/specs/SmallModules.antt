@@ -3,8 +3,8 @@ use Rattle.std.specs.Prelude.{ℕ, pos, List, [], ◌∷◌, None, codes}
 use Rattle.py_base.specs.declared.Place.{Place}
 use Rattle.py_tokens.specs.declared.Token.{Token}
 use Rattle.py_tokens.specs.declared.TokenForm.{TokenForm}
-use Rattle.py_tokens.specs.declared.TokenForm.TheVariants.{Name, Key, Number, Mark, Newline, Indent, Dedent, End}
-use Rattle.py_tokens.specs.declared.Keyword.TheVariants.{Def, None as NoneWord, And, Not, Is, Pass}
+use Rattle.py_tokens.specs.declared.TokenForm.TheVariants.{Name, Key, Number, Mark, Newline, End}
+use Rattle.py_tokens.specs.declared.Keyword.TheVariants.{Def, None as NoneWord, And, Not, Is}
 use Rattle.py_tokens.specs.declared.Mark.TheVariants.{OpenParen, CloseParen, Arrow, Colon, Assign, Minus, Star, Comma}
 use Rattle.raw_syntax.specs.declared.RawExpr.{RawExpr}
 use Rattle.raw_syntax.specs.declared.RawExprForm.TheVariants as exprs

@@ -1,6 +1,6 @@
 -- Which tokens spell a type, a statement and a block: one relation for each line of the grammar and one case for each
 -- alternative. A statement's place is its first token.
-use Rattle.std.specs.Prelude.{ℕ, List, [], ◌∷◌, ◌≡◌, Option, Some, None, codes}
+use Rattle.std.specs.Prelude.{ℕ, List, [], ◌∷◌, Option, Some, None, codes}
 use Rattle.py_base.specs.declared.Place.{Place}
 use Rattle.py_tokens.specs.declared.Token.{Token}
 use Rattle.py_tokens.specs.declared.TokenForm.TheVariants as forms

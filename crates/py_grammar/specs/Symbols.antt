@@ -1,5 +1,5 @@
 -- What the machine wants and what it has made. It is a device of the proofs: the grammar doesn't speak of it.
-use Rattle.std.specs.Prelude.{ℕ, Bool, true, false, List, [], ◌∷◌, ◌++◌, Option, Some, None}
+use Rattle.std.specs.Prelude.{ℕ, Bool, true, false, List, Option}
 use Rattle.py_base.specs.declared.Place.{Place}
 use Rattle.py_tokens.specs.declared.TokenForm.{TokenForm}
 use Rattle.py_tokens.specs.declared.TokenForm.TheVariants as forms
