@@ -12,3 +12,4 @@ pub mod SoundModule
 pub mod Defaults
 pub mod Sound
 pub mod SmallModules
+pub mod Bottoms

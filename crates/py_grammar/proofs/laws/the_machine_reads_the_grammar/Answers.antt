@@ -1,4 +1,5 @@
 use Rattle.py_grammar.proofs.WholeModule.{complete}
+use Rattle.py_grammar.proofs.Bottoms.{ended}
 use Rattle.py_grammar.proofs.Sound.{spells, first_bad, unfinished}
 use Rattle.py_grammar.proofs.laws.the_machine_reads_the_grammar.Goals as goal
 
@@ -13,3 +14,6 @@ returns-clause-refused c = first_bad
 
 pub returns-clause-unfinished : goal.returns-clause-unfinished
 returns-clause-unfinished c = unfinished
+
+pub returns-clause-ended : goal.returns-clause-ended
+returns-clause-ended c = ended
