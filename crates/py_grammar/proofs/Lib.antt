@@ -1,0 +1,15 @@
+pub mod Rows
+pub mod Follows
+pub mod Starts
+pub mod WholeExpr
+pub mod StmtStarts
+pub mod WholeStmt
+pub mod WholeModule
+pub mod Phrases
+pub mod SoundExpr
+pub mod SoundStmt
+pub mod SoundModule
+pub mod Defaults
+pub mod Sound
+pub mod SmallModules
+pub mod Bottoms

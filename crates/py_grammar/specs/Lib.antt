@@ -1,0 +1,11 @@
+pub mod TokenFronts
+pub mod ExprGrammar
+pub mod StmtGrammar
+pub mod ModuleGrammar
+pub mod Spelling
+pub mod Nesting
+pub mod Symbols
+pub mod Makers
+pub mod Moves
+pub mod Machine
+pub mod SmallModules
