@@ -1,0 +1,7 @@
+pub mod Within
+pub mod Sorts
+pub mod Forms
+pub mod FormAnswers
+pub mod Meanings
+pub mod Fitting
+pub mod FormLaws
