@@ -114,7 +114,7 @@ module _ (m : Valued) where
   rolled x g =
       subst (λ f. Gives m f (number_at m (roll-Term x))) (sym (fold-roll-Term Form form_step x)) (subst (λ z. Gives m (form_step (map-Term Term Form form_of x)) z) (sym (fold-roll-Term ℤ (number_step m) x)) g)
 
-  has_form : (t : Term) → HasForm t
+  pub has_form : (t : Term) → HasForm t
   has_form = ind-Term HasForm (λ x y is. subst (λ z. HasForm (roll-Term z)) is (rolled (map-Term Known Term (λ e. e.0) y) (layer y)))
 
 -- the number of a term is the value of its linear form and of the units

@@ -4,4 +4,5 @@ pub mod Forms
 pub mod FormAnswers
 pub mod Meanings
 pub mod Fitting
+pub mod MeaningLaws
 pub mod FormLaws

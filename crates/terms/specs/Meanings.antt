@@ -1,9 +1,8 @@
 -- What terms and literals mean at a valuation, and when a valuation fits them.
-use Rattle.std.specs.Prelude.{◌≡◌, ℕ, Bool, if◌then◌else◌, ℤ, pos, ◌+ℤ◌, ◌*ℤ◌, ◌≤ℤ◌, ◌⊎◌, List, [], ◌∷◌}
-use Rattle.terms.specs.declared.term.Term.{Term, Term-F, fold-Term, out-Term}
+use Rattle.std.specs.Prelude.{◌≡◌, ℕ, Bool, ℤ, pos, ◌+ℤ◌, ◌*ℤ◌, ◌≤ℤ◌, ◌⊎◌, List, [], ◌∷◌}
+use Rattle.terms.specs.declared.term.Term.{Term, Term-F, fold-Term}
 use Rattle.terms.specs.declared.literal.Literal.{Literal}
 use Rattle.terms.specs.declared.literal.Literal.TheVariants as lit
-use Rattle.terms.specs.Sorts.{of_numbers}
 
 -- A valuation with its unit q. Numbers are kept in parts of 1/q.
 pub record Valued : Type 0 where
@@ -30,23 +29,44 @@ number_step m _ = pos 0
 abbrev pub number_at : Valued → Term → ℤ
 number_at m = fold-Term ℤ (number_step m)
 
--- None is the reference 0
-abbrev pub reference_form : Valued → Term-F Term → ℕ
-reference_form m (Term-F.RefSym n) = m.references n
-reference_form m (Term-F.RefLit n) = n
-reference_form m _ = 0
-
--- the reference that a term is
-abbrev pub reference_at : Valued → Term → ℕ
-reference_at m t = reference_form m (out-Term t)
-
 pub data Meaning : Type 0 where
   Number : ℤ → Meaning
   Reference : ℕ → Meaning
 
--- what a term is
+-- The operations on meanings. What is made of a reference has no number, and counts as None, the
+-- reference 0.
+abbrev pub sum_of : Meaning → Meaning → Meaning
+sum_of (Number x) (Number y) = Number (x +ℤ y)
+sum_of x y = Reference 0
+
+abbrev pub multiple_of : ℤ → Meaning → Meaning
+multiple_of k (Number x) = Number (k *ℤ x)
+multiple_of k (Reference n) = Reference 0
+
+abbrev pub applied : List Meaning → Meaning
+applied [] = Reference 0
+applied (Number x ∷ []) = Number x
+applied (Number x ∷ y ∷ more) = applied (y ∷ more)
+applied (Reference n ∷ more) = Reference 0
+
+abbrev pub meaning_step : Valued → Term-F Meaning → Meaning
+meaning_step m (Term-F.Sym n) = Number (m.numbers n)
+meaning_step m (Term-F.Lit z) = Number (z *ℤ m.unit)
+meaning_step m (Term-F.Add a b) = sum_of a b
+meaning_step m (Term-F.Scale k a) = multiple_of k a
+meaning_step m (Term-F.App operator all) = applied all
+meaning_step m (Term-F.RefSym n) = Reference (m.references n)
+meaning_step m (Term-F.RefLit n) = Reference n
+meaning_step m Term-F.Nil = Reference 0
+
+-- what a term is: a number or a reference
 abbrev pub meaning_at : Valued → Term → Meaning
-meaning_at m t = if of_numbers t then Number (number_at m t) else Reference (reference_at m t)
+meaning_at m = fold-Term Meaning (meaning_step m)
+
+-- one number is at most another
+abbrev pub IsAtMost : Meaning → Meaning → Type 0
+IsAtMost (Number x) (Number y) = x ≤ℤ y
+IsAtMost x y = ⊥
 
 -- two numbers differ by at least the unit, or two references differ
 abbrev pub AreApart : ℤ → Meaning → Meaning → Type 0
@@ -55,7 +75,7 @@ AreApart unit x y = ¬ (x ≡ y)
 
 -- a literal holds
 abbrev pub Holds : Valued → Literal → Type 0
-Holds m (lit.AtMost a b) = number_at m a ≤ℤ number_at m b
+Holds m (lit.AtMost a b) = IsAtMost (meaning_at m a) (meaning_at m b)
 Holds m (lit.Same a b) = meaning_at m a ≡ meaning_at m b
 Holds m (lit.Apart a b) = AreApart m.unit (meaning_at m a) (meaning_at m b)
 Holds m (lit.Flag n held) = m.flags n ≡ held

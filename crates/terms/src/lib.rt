@@ -10,7 +10,9 @@ mod normal_form;
 mod sort;
 mod term;
 
-pub use laws::{linear_forms_are_unique, linear_forms_have_the_number};
+pub use laws::{
+    linear_forms_are_unique, linear_forms_have_the_number, terms_of_numbers_are_their_numbers,
+};
 pub use linear::Linear;
 pub use literal::Literal;
 pub use normal_form::normal;
