@@ -7,6 +7,7 @@ mod laws;
 mod linear;
 mod literal;
 mod normal_form;
+mod same;
 mod sort;
 mod term;
 

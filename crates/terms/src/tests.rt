@@ -119,9 +119,27 @@ fn a_copy_is_equal(rt: HostRuntime) -> Result<(), Fail> {
     let alloc = rt.alloc();
     let t = mixed(alloc).map_err(|_| "no term")?;
     let copy = t.copy(alloc).map_err(|_| "no copy")?;
-    let form = normal(alloc, &copy).map_err(|_| "no form")?;
-    assert_eq!(rt; form.coefs.as_slice(), [(1, 1), (3, -3)].as_slice());
-    assert_eq!(rt; form.bound, 6);
+    assert!(rt; t.is_same(&copy));
+    let literal = Literal::AtMost(t, Term::Lit(MIN));
+    let copy = literal.copy(alloc).map_err(|_| "no copy")?;
+    assert!(rt; literal.is_same(&copy));
+    Ok(())
+}
+
+#[test]
+fn terms_that_differ_within_are_not_the_same(rt: HostRuntime) -> Result<(), Fail> {
+    let alloc = rt.alloc();
+    let first = apply(alloc, Term::Sym(1), Term::Sym(7)).map_err(|_| "no application")?;
+    let other = apply(alloc, Term::Sym(2), Term::Sym(7)).map_err(|_| "no application")?;
+    let short = Term::App(4, Items::new(alloc));
+    assert!(rt; first.is_same(&first));
+    assert!(rt; !first.is_same(&other));
+    assert!(rt; !first.is_same(&short));
+    assert!(rt; !Term::Nil.is_same(&Term::RefLit(0)));
+    assert!(rt; !Term::Sym(3).is_same(&Term::RefSym(3)));
+    let same = Literal::Same(first, Term::Nil);
+    let apart = Literal::Apart(other, Term::Nil);
+    assert!(rt; !same.is_same(&apart));
     Ok(())
 }
 
