@@ -1,0 +1,4 @@
+pub mod Conditions
+pub mod Replacing
+pub mod Rows
+pub mod Derivations
