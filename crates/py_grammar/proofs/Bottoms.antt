@@ -1,19 +1,16 @@
 -- The symbol of items stands at the bottom of the stack alone, so a list that ends with the end of a text is never too
 -- short.
-use Rattle.std.proofs.Common.{ℕ, Bool, true, false, ◌≡◌, arith, refl, sym, ◌∙◌, List, [], ◌∷◌, ◌++◌, ap, subst, append_assoc, Option, Some, None, if◌then◌else◌}
+use Rattle.std.proofs.Common.{Bool, true, false, ◌≡◌, arith, refl, sym, List, [], ◌∷◌, ◌++◌, subst, append_assoc, Option, Some, None, if◌then◌else◌}
 use Rattle.py_base.specs.declared.Place.{Place}
 use Rattle.py_tokens.specs.declared.Token.{Token}
 use Rattle.py_tokens.specs.declared.TokenForm.{TokenForm}
 use Rattle.py_tokens.specs.declared.TokenForm.TheVariants as forms
 use Rattle.py_tokens.specs.declared.Keyword.TheVariants as keys
 use Rattle.py_tokens.specs.declared.Mark.TheVariants as marks
-use Rattle.raw_syntax.specs.declared.Arithmetic.{Arithmetic}
-use Rattle.raw_syntax.specs.declared.Arithmetic.TheVariants as signs
-use Rattle.raw_syntax.specs.declared.Comparison.{Comparison}
 use Rattle.raw_syntax.specs.declared.Comparison.TheVariants as compares
-use Rattle.py_grammar.specs.Symbols.{Value, vitems, vexpr, vargs, vlinks, vname, vstmt, vstmts, velifs, vhandlers, vparams, vmarks, vfuncs, vbase, Fixed, newline, indent, colon, assign, arrow, open_paren, close_paren, close_bracket, word_def, word_import, fits, Sym, fixed, make, want_name, neg, un, tail_post, tail_prod, tail_sum, tail_cmp, is_tail, links, tail_and, tail_or, in_bracket, bracket_tail, elements, elements_tail, args, arg_tail, args_tail, ty_atom, ty_tail, simple, return_tail, simple_tail, stmt, block, stmts, elifs, else_part, finally_part, try_tail, handlers, params, param_tail, params_tail, decorators, members, class_body, doc, base, in_base, base_tail, any_name, dots, commas, imported, imports, items, Move, take, skip, stop}
-use Rattle.py_grammar.specs.Makers.{push, make_or, make_and, make_not, make_link, make_chain, make_binary, make_negate, make_field, make_call, make_value, make_named, make_bracket, make_first, make_element, make_tuple, make_head, make_inner, make_value_return, make_raise, make_assert, make_eval, make_declare, make_assign, make_augment, make_if, make_elif, make_while, make_with, make_try, make_try_finally, make_handler, make_only, make_next, make_param, make_typed_param, make_mark, make_func, make_member, make_base, make_base_of, make_class, make_item, make_module}
-use Rattle.py_grammar.specs.Moves.{starts_expr, and_then, prod_of, sum_of, expr_of, next_un, next_neg, next_expr, next_post, next_prod, next_sum, compare_with, next_link, next_is, next_and, next_or, next_in_bracket, next_bracket, next_elements, next_element, next_args, next_arg_tail, next_args_tail, next_ty_atom, next_ty_tail, next_simple, next_return, augment_with, next_simple_tail, next_stmt, next_block, next_stmts, next_elifs, next_else, next_finally, handler_with, next_try, next_handlers, next_params, next_param_tail, next_params_tail, func_with, decorator_with, next_decorators, next_members, next_class_body, next_doc, next_base, next_in_base, next_base_tail, next_name, next_any_name, next_dots, next_commas, next_imported, next_imports, next_items, next, made}
+use Rattle.py_grammar.specs.Symbols.{Value, vitems, vlinks, Fixed, newline, indent, colon, assign, arrow, open_paren, close_paren, close_bracket, word_def, word_import, fits, Sym, fixed, make, want_name, neg, un, tail_post, tail_prod, tail_sum, tail_cmp, is_tail, links, tail_and, tail_or, in_bracket, bracket_tail, elements, elements_tail, args, arg_tail, args_tail, ty_atom, ty_tail, simple, return_tail, simple_tail, stmt, block, stmts, elifs, else_part, finally_part, try_tail, handlers, params, param_tail, params_tail, decorators, members, class_body, doc, base, in_base, base_tail, any_name, dots, commas, imported, imports, items, Move, take, skip, stop}
+use Rattle.py_grammar.specs.Makers.{make_link, make_element, make_value_return, make_only, make_next}
+use Rattle.py_grammar.specs.Moves.{starts_expr, and_then, next_un, next_neg, next_expr, next_post, next_prod, next_sum, next_link, next_is, next_and, next_or, next_in_bracket, next_bracket, next_elements, next_element, next_args, next_arg_tail, next_args_tail, next_ty_atom, next_ty_tail, next_simple, next_return, next_simple_tail, next_stmt, next_block, next_stmts, next_elifs, next_else, next_finally, next_try, next_handlers, next_params, next_param_tail, next_params_tail, next_decorators, next_members, next_class_body, next_doc, next_base, next_in_base, next_base_tail, next_name, next_any_name, next_dots, next_commas, next_imported, next_imports, next_items, next, made}
 use Rattle.py_grammar.specs.Machine.{then_do, step, Out, bad, short, done, settle, run, run_module}
 use Rattle.py_grammar.proofs.Phrases.{tok}
 
