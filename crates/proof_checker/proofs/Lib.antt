@@ -1,6 +1,6 @@
 mod Meant
 pub mod Putting
-mod Facts
+pub mod Facts
 mod Splitting
 mod Combining
 pub mod Sound

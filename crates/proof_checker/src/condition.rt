@@ -1,4 +1,7 @@
 // Conditions.
+ghost use Rattle.std.specs.Prelude.{◌↔◌, IsTrue};
+ghost use Rattle.proof_checker.specs.Conditions.{IsSorted};
+
 use sqlite_items::Items;
 use terms::Literal;
 
@@ -7,6 +10,20 @@ use terms::Literal;
 pub struct Condition {
     pub hyps: Items<Literal>,
     pub goal: Literal,
+}
+
+impl Condition {
+    /// Whether each of its literals is sorted.
+    pub fn is_sorted(&self) -> bool
+        ensures { IsTrue result ↔ IsSorted self.now }
+    {
+        for l in self.hyps.as_slice() {
+            if !l.is_sorted() {
+                return false;
+            }
+        }
+        self.goal.is_sorted()
+    }
 }
 
 /// Numbers, references and flags for symbols. What isn't listed is 0 or false.

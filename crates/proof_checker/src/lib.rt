@@ -8,3 +8,6 @@ mod laws;
 pub use condition::{Condition, Valuation};
 pub use derivation::Derivation;
 pub use laws::{derived_conditions_hold, replaced_terms_mean_the_same};
+
+#[cfg(test)]
+mod tests;
