@@ -1,0 +1,6 @@
+//! The equalities of terms that follow from literals.
+#![tactic(auto)]
+
+mod laws;
+
+pub use laws::{equal_terms_mean_the_same, equal_terms_stand, equalities_stay_with_more};
