@@ -134,7 +134,7 @@ sides_stand (j ∷ ls) l u h k =
       | inr q ↦ Contains-append_right (within_sides (sides_of j)) (terms_in ls) u (sides_stand ls l u q k)
     ]
 
-terms_in-append : (ls more : List Literal) → terms_in (ls ++ more) ≡ terms_in ls ++ terms_in more
+pub terms_in-append : (ls more : List Literal) → terms_in (ls ++ more) ≡ terms_in ls ++ terms_in more
 terms_in-append [] more = refl
 terms_in-append (l ∷ ls) more =
     ap (λ ts. within_sides (sides_of l) ++ ts) (terms_in-append ls more) ∙ sym (append_assoc (within_sides (sides_of l)) (terms_in ls) (terms_in more))
