@@ -9,3 +9,5 @@ mod fixtures;
 mod outside;
 #[cfg(test)]
 mod runs;
+#[cfg(test)]
+mod spellings;

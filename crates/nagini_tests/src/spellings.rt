@@ -1,0 +1,134 @@
+// The tokens of worked examples, written out with single blanks and read again.
+use py_lexer::lex;
+use py_tokens::{LexFault, Token, TokenForm};
+use std::alloc::{AllocError, Global};
+use std::test::Fail;
+
+/// Two threads that each add one to a counter under its lock.
+const COUNTER: &str = "from nagini_contracts.contracts import *
+
+class Cell:
+    def __init__(self, v: int) -> None:
+        Ensures(Acc(self.value) and self.value == v)
+        self.value = v
+
+class CellLock(Lock[Cell]):
+    @Predicate
+    def invariant(self) -> bool:
+        return Acc(self.get_locked().value)
+
+def work(l: CellLock) -> None:
+    Requires(WaitLevel() < Level(l))
+    with l:
+        c = l.get_locked()
+        c.value = c.value + 1
+
+def main() -> None:
+    l = CellLock(Cell(0), 10)
+    a = Thread(target=work, args=(l,), level=5)
+    b = Thread(target=work, args=(l,), level=6)
+    a.start(work)
+    b.start(work)
+    a.join(work)
+    b.join(work)
+    with l:
+        print(l.get_locked().value)
+";
+
+/// Lines over brackets, a comment within them, and blanks between tokens.
+const BRACKETS: &str = "def f(x: int,  # two parameters
+      y: int) -> bool:
+    if (x <= y and
+            not x == 0):
+        return   True
+    return x // y != -1 % 2
+";
+
+/// The line of this number, counted from 1.
+fn line_of(text: &str, number: u32) -> Option<&str> {
+    let mut at = 1;
+    for line in text.split('\n') {
+        if at == number {
+            return Some(line);
+        }
+        at = at.checked_add(1)?;
+    }
+    None
+}
+
+/// The characters of a token that stands on one line of ASCII.
+fn characters_of<'a>(text: &'a str, token: &Token) -> Option<&'a [u8]> {
+    let line = line_of(text, token.place.line)?.as_bytes();
+    let from = token.place.col.checked_sub(1)?;
+    let to = token.end.col.checked_sub(1)?;
+    line.get(from as usize..to as usize)
+}
+
+fn push_blanks(out: &mut Vec<u8>, count: usize) -> Result<(), AllocError> {
+    for _ in 0..count {
+        out.push(b' ')?;
+    }
+    Ok(())
+}
+
+/// The tokens of a text with single blanks between, a line for each NEWLINE, and four blanks for each
+/// open INDENT; None where a token has no characters in the text.
+fn written(alloc: Global, text: &str, tokens: &[Token]) -> Result<Option<Vec<u8>>, AllocError> {
+    let mut out = Vec::new(alloc);
+    let mut depth: usize = 0;
+    let mut fresh = true;
+    for token in tokens {
+        match &token.form {
+            TokenForm::Newline => {
+                out.push(b'\n')?;
+                fresh = true;
+            }
+            TokenForm::Indent => depth = depth.saturating_add(1),
+            TokenForm::Dedent => depth = depth.saturating_sub(1),
+            TokenForm::End => {}
+            _ => {
+                let Some(bytes) = characters_of(text, token) else {
+                    return Ok(None);
+                };
+                let blanks = if fresh { depth.saturating_mul(4) } else { 1 };
+                push_blanks(&mut out, blanks)?;
+                out.extend_from_slice(bytes)?;
+                fresh = false;
+            }
+        }
+    }
+    Ok(Some(out))
+}
+
+/// The tokens of a text that isn't too long.
+fn tokens_of(alloc: Global, text: &str) -> Option<Result<Vec<Token>, LexFault>> {
+    if text.len() > 100_000 {
+        return None;
+    }
+    Some(lex(alloc, text.as_bytes()))
+}
+
+#[test]
+fn tokens_with_single_blanks_are_the_same_tokens(rt: HostRuntime) -> Result<(), Fail> {
+    let alloc = rt.alloc();
+    for (text, count, lines) in [(COUNTER, 245, 24), (BRACKETS, 46, 4)] {
+        let Some(Ok(tokens)) = tokens_of(alloc, text) else {
+            return Err("no tokens".into());
+        };
+        assert_eq!(rt; tokens.len(), count, "{text}");
+        let Some(spelled) = written(alloc, text, &tokens)? else {
+            return Err("a token without characters".into());
+        };
+        let spelled = std::str::from_utf8(&spelled).map_err(|_| "no text")?;
+        let Some(Ok(again)) = tokens_of(alloc, spelled) else {
+            return Err("no tokens of what was written".into());
+        };
+        assert_eq!(rt; again.len(), count, "{spelled}");
+        let Some(twice) = written(alloc, spelled, &again)? else {
+            return Err("a written token without characters".into());
+        };
+        assert_eq!(rt; twice.as_slice(), spelled.as_bytes());
+        assert_eq!(rt; spelled.split('\n').count(), lines + 1, "{spelled}");
+    }
+    Ok(())
+}

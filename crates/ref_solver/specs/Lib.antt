@@ -1,0 +1,3 @@
+pub mod Following
+pub mod Sameness
+pub mod Classes
