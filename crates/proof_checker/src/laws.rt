@@ -4,9 +4,10 @@ ghost use Rattle.proof_checker.specs.declared.condition.Condition.{Condition};
 ghost use Rattle.proof_checker.specs.declared.derivation.Derivation.{Derivation};
 ghost use Rattle.proof_checker.specs.Conditions.{IsSorted, HoldsAt};
 ghost use Rattle.proof_checker.specs.Derivations.{Derives};
-ghost use Rattle.proof_checker.specs.Replacing.{same_term, put};
+ghost use Rattle.proof_checker.specs.Replacing.{put};
 ghost use Rattle.terms.specs.declared.Term.{Term};
 ghost use Rattle.terms.specs.Meanings.{Valued, meaning_at};
+ghost use Rattle.terms.specs.Sameness.{same_term};
 
 /// A condition that a derivation derives holds at every valuation and unit.
 pub fn derived_conditions_hold()

@@ -6,10 +6,10 @@ use Rattle.std.proofs.lemmas.List.Sums.{sum_by-cons}
 use Rattle.terms.specs.declared.Term.{Term}
 use Rattle.terms.specs.declared.Literal.{Literal}
 use Rattle.ref_solver.specs.Following.{Stands, Follows, assumed, none, result, applied, sum, multiple, itself, turned, through}
-use Rattle.ref_solver.specs.Sameness.{same_term}
+use Rattle.terms.specs.Sameness.{same_term}
 use Rattle.ref_solver.specs.Classes.{count_in, AreTogether, AreClasses, linked, linked_to, linked_to_some, links, class_at, ArePartial, AreSettled}
 use Rattle.ref_solver.proofs.Standing.{first_in, rest_in, none_in, cons_cases, both_stand}
-use Rattle.ref_solver.proofs.Testing.{same_is_equal, equal_is_same}
+use Rattle.terms.specs.SamenessLaws.{same_is_equal, equal_is_same}
 use Rattle.ref_solver.proofs.Linking.{any_from, or_left, assumed_linked, none_linked, result_linked, applied_linked, sum_linked, multiple_linked}
 
 abbrev pub Parted : Type 0

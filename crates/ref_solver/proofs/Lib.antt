@@ -1,6 +1,5 @@
 pub mod Standing
 pub mod Meant
-pub mod Testing
 pub mod Collecting
 pub mod Linking
 pub mod Exact

@@ -8,11 +8,11 @@ use Rattle.terms.specs.declared.Literal.{Literal}
 use Rattle.terms.specs.declared.Literal.TheVariants as lit
 use Rattle.terms.specs.Fitting.{Application, Applies}
 use Rattle.ref_solver.specs.Following.{Stands, Follows, assumed, none, result, applied, sum, multiple}
-use Rattle.ref_solver.specs.Sameness.{same_term}
+use Rattle.terms.specs.Sameness.{same_term}
 use Rattle.ref_solver.specs.Classes.{AreTogether, has, has_both, together, says, both_end, fronts_together, last_is, congruent, ends_in, linked}
 use Rattle.ref_solver.proofs.Standing.{first_in, rest_in, none_in, cons_cases, out-App}
 use Rattle.ref_solver.proofs.Meant.{out-Add, out-Scale, out-RefLit, out-Nil}
-use Rattle.ref_solver.proofs.Testing.{same_is_equal, equal_is_same, both, and_both, nat_same, nat_itself, int_same, int_itself}
+use Rattle.terms.specs.SamenessLaws.{same_is_equal, equal_is_same, both, and_both, nat_same, nat_itself, int_same, int_itself}
 
 -- tests of lists
 some_step : {X : Type 0} (p : X → Bool) (x : X) (xs : List X) → (list_any p xs ≡ true → (y : X) × Contains xs y × (p y ≡ true)) → (b : Bool) → p x ≡ b → list_any p (x ∷ xs) ≡ true → (y : X) × Contains (x ∷ xs) y × (p y ≡ true)

@@ -11,10 +11,10 @@ use Rattle.terms.specs.declared.Term.{Term}
 use Rattle.terms.specs.declared.Literal.{Literal}
 use Rattle.terms.specs.Fitting.{terms_in}
 use Rattle.ref_solver.specs.Following.{Stands, Follows, itself, turned, through}
-use Rattle.ref_solver.specs.Sameness.{same_term}
+use Rattle.terms.specs.Sameness.{same_term}
 use Rattle.ref_solver.specs.Classes.{count_in, AreTogether, has, linked, linked_to, linked_to_some, with_term, with_terms, class_at, merged, ArePartial, IsPartner}
 use Rattle.ref_solver.proofs.Standing.{first_in, rest_in, none_in, cons_cases, both_stand}
-use Rattle.ref_solver.proofs.Testing.{same_is_equal}
+use Rattle.terms.specs.SamenessLaws.{same_is_equal}
 use Rattle.ref_solver.proofs.Linking.{some_of, any_from, or_cases, has_it, it_has, linked_follows}
 use Rattle.ref_solver.proofs.Exact.{Parted, count_of, unit_if, count_cons, in_cons, counted_in, found_at}
 

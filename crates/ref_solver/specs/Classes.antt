@@ -6,7 +6,7 @@ use Rattle.terms.specs.declared.Term.{Term, Term-F, out-Term}
 use Rattle.terms.specs.declared.Literal.{Literal}
 use Rattle.terms.specs.declared.Literal.TheVariants as lit
 use Rattle.ref_solver.specs.Following.{Stands, Follows}
-use Rattle.ref_solver.specs.Sameness.{same_term}
+use Rattle.terms.specs.Sameness.{same_term}
 
 -- how often a term stands in the classes
 abbrev pub count_in : Term → List (List Term) → ℕ

@@ -1,6 +1,6 @@
 // Whether two terms are one.
 ghost use Rattle.std.specs.Prelude.{◌≡◌, map};
-ghost use Rattle.ref_solver.specs.Sameness.{same_term, same_all};
+ghost use Rattle.terms.specs.Sameness.{same_term, same_all};
 
 use sqlite_items::Items;
 use terms::Term;

@@ -6,3 +6,5 @@ pub mod Meanings
 pub mod Fitting
 pub mod MeaningLaws
 pub mod FormLaws
+pub mod Sameness
+pub mod SamenessLaws

@@ -1,4 +1,5 @@
-use Rattle.proof_checker.proofs.Putting.{same_is_equal, equal_is_same, put_means}
+use Rattle.terms.specs.SamenessLaws.{same_is_equal, equal_is_same}
+use Rattle.proof_checker.proofs.Putting.{put_means}
 use Rattle.proof_checker.proofs.laws.replaced_terms_mean_the_same.Goals as goal
 
 pub returns-clause-test : goal.returns-clause-test

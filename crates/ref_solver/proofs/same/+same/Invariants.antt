@@ -1,5 +1,5 @@
 use Rattle.std.proofs.Common.{◌≡◌, map, drop}
-use Rattle.ref_solver.specs.Sameness.{same_term, same_all}
+use Rattle.terms.specs.Sameness.{same_term, same_all}
 use Rattle.ref_solver.proofs.same.+same.Given as goal
 
 abbrev pub invariant-same_terms-loop-x : goal.invariant-same_terms-loop-x

@@ -1,7 +1,7 @@
 -- Whether two terms are one.
 use Rattle.std.specs.Prelude.{Bool, true, false, ◌&&◌, ◌==◌, List, [], ◌∷◌}
 use Rattle.std.specs.Ordering.{int_eq}
-use Rattle.terms.specs.declared.Term.{Term, Term-F, fold-Term, out-Term}
+use Rattle.terms.specs.declared.term.Term.{Term, Term-F, fold-Term, out-Term}
 
 abbrev pub same_all : List (Term → Bool) → List Term → Bool
 same_all [] [] = true

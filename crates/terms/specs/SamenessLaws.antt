@@ -3,8 +3,8 @@ use Rattle.std.specs.Prelude.{◌≡◌, ℕ, Bool, true, false, ◌&&◌, ◌==
 use Rattle.std.specs.Ordering.{int_eq}
 use Rattle.std.proofs.Common.{refl, ap, sym, subst, ◌∙◌, arith}
 use Rattle.std.proofs.lemmas.Bool.Decides.{nat_tests, Decides-int_eq}
-use Rattle.terms.specs.declared.Term.{Term, Term-F, map-Term, out-Term, out-roll-Term, roll-Term, roll-out-Term, fold-roll-Term, ind-Term}
-use Rattle.ref_solver.specs.Sameness.{same_all, same_form, same_term}
+use Rattle.terms.specs.declared.term.Term.{Term, Term-F, map-Term, out-Term, out-roll-Term, roll-Term, roll-out-Term, fold-roll-Term, ind-Term}
+use Rattle.terms.specs.Sameness.{same_all, same_form, same_term}
 
 pub nat_same : (m n : ℕ) → (m == n) ≡ true → m ≡ n
 nat_same m n h = grind (arith, nat_tests)
