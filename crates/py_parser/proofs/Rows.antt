@@ -1,5 +1,5 @@
 -- What the machine does at the symbols of expressions.
-use Rattle.std.proofs.Common.{ℕ, Bool, ◌≡◌, refl, sym, ◌∙◌, List, [], ◌∷◌, ◌++◌, Option, Some, None, ap, append_assoc}
+use Rattle.std.proofs.Common.{ℕ, ◌≡◌, refl, sym, ◌∙◌, List, [], ◌∷◌, ◌++◌, Some, None, ap, append_assoc}
 use Rattle.py_base.specs.declared.Place.{Place}
 use Rattle.py_tokens.specs.declared.Token.{Token}
 use Rattle.py_tokens.specs.declared.TokenForm.{TokenForm}
@@ -12,16 +12,17 @@ use Rattle.raw_syntax.specs.declared.RawArgument.{RawArgument}
 use Rattle.raw_syntax.specs.declared.RawArgument.TheVariants as arguments
 use Rattle.raw_syntax.specs.declared.RawComparison.{RawComparison}
 use Rattle.raw_syntax.specs.declared.Arithmetic.{Arithmetic}
-use Rattle.raw_syntax.specs.declared.Arithmetic.TheVariants as signs
 use Rattle.raw_syntax.specs.declared.Comparison.{Comparison}
 use Rattle.raw_syntax.specs.declared.Comparison.TheVariants as compares
 use Rattle.py_grammar.specs.ExprGrammar.{node, link, place_of}
 use Rattle.py_grammar.specs.Symbols.{Value, vexpr, vexprs, vargs, vlinks, vname, Sym, make, want_name, neg, un, tail_post, tail_prod, tail_sum, tail_cmp, is_tail, links, tail_and, tail_or, in_bracket, bracket_tail, elements, elements_tail, args, arg_tail, args_tail, Move, take, skip, stop}
 use Rattle.py_grammar.specs.Makers.{make_or, make_and, make_not, make_link, make_binary, make_negate, make_field, make_call, make_named, make_bracket, make_first, make_element, make_tuple}
-use Rattle.py_grammar.specs.Moves.{next, made, and_then, next_un, next_neg, next_post, next_prod, next_sum, next_link, next_is, next_and, next_or, next_in_bracket, next_bracket, next_elements, next_element, next_args, next_arg_tail, next_args_tail, next_name}
+use Rattle.py_grammar.specs.Moves.{next, made, and_then, next_un, next_neg, next_post, next_prod, next_sum, next_is, next_and, next_or, next_in_bracket, next_bracket, next_elements, next_element, next_args, next_arg_tail, next_args_tail, next_name}
 use Rattle.py_grammar.specs.Machine.{then_do, step, Out, bad, short, run}
 use Rattle.py_parser.specs.declared.start.Start.TheVariants as starts
-use Rattle.py_parser.specs.Leads.{StartsWith, LinksBy, link_symbols, BeginsWith}
+use Rattle.py_parser.specs.declared.start.LinkStart.{LinkStart}
+use Rattle.py_parser.specs.declared.start.Follow.TheVariants as follows
+use Rattle.py_parser.specs.Leads.{StartsWith, LinksBy, link_symbols, BeginsWith, Follows}
 
 moved : (r : List Token) (k : Token) (X : Sym) (S : List Sym) (V : List Value) (m : Move) → next X k.place k.form ≡ m → run (k ∷ r) (X ∷ S) V ≡ (elim (then_do m (λ ys vs. Some (ys ++ S, vs ++ V)) (step S (made X V) k)) as (λ _. Out) [ None ↦ bad k.place | Some c ↦ run r c.0 c.1 ])
 unfolding run
@@ -207,8 +208,8 @@ pub row_comma : (r : List Token) (k : Token) (S : List Sym) (V : List Value) →
 unfolding run
 row_comma r k S V f = rw f refl
 
-pub row_args_stop : (r : List Token) (k : Token) (S : List Sym) (V : List Value) → next_args_tail k.form ≡ stop → run (k ∷ r) (args_tail ∷ S) V ≡ bad k.place
-row_args_stop r k S V f = stops r k args_tail S V f
+pub row_args_stop : (r : List Token) (k : Token) (S : List Sym) (V : List Value) → Follows follows.Other k.form → run (k ∷ r) (args_tail ∷ S) V ≡ bad k.place
+row_args_stop r k S V f = stops r k args_tail S V (f k.place).0
 
 pub short_args : (S : List Sym) (V : List Value) → run [] (args ∷ S) V ≡ short
 unfolding run
@@ -252,8 +253,8 @@ row_first r k S V q e f = takes r k (bracket_tail q) S (vexpr e ∷ V) (make mak
     first_move : (f : TokenForm) → f ≡ forms.Mark marks.Comma → next_bracket q f ≡ take (make make_first ∷ elements q ∷ []) []
     first_move f h = rw h refl
 
-pub row_bracket_stop : (r : List Token) (k : Token) (S : List Sym) (V : List Value) (q : Place) → next_bracket q k.form ≡ stop → run (k ∷ r) (bracket_tail q ∷ S) V ≡ bad k.place
-row_bracket_stop r k S V q f = stops r k (bracket_tail q) S V f
+pub row_bracket_stop : (r : List Token) (k : Token) (S : List Sym) (V : List Value) (q : Place) → Follows follows.Other k.form → run (k ∷ r) (bracket_tail q ∷ S) V ≡ bad k.place
+row_bracket_stop r k S V q f = stops r k (bracket_tail q) S V (f q).1
 
 pub short_in_bracket : (S : List Sym) (V : List Value) (q : Place) → run [] (in_bracket q ∷ S) V ≡ short
 unfolding run
@@ -285,8 +286,8 @@ pub row_element_comma : (r : List Token) (k : Token) (S : List Sym) (V : List Va
 unfolding run
 row_element_comma r k S V q f = rw f refl
 
-pub row_element_stop : (r : List Token) (k : Token) (S : List Sym) (V : List Value) (q : Place) → next_element q k.form ≡ stop → run (k ∷ r) (elements_tail q ∷ S) V ≡ bad k.place
-row_element_stop r k S V q f = stops r k (elements_tail q) S V f
+pub row_element_stop : (r : List Token) (k : Token) (S : List Sym) (V : List Value) (q : Place) → Follows follows.Other k.form → run (k ∷ r) (elements_tail q ∷ S) V ≡ bad k.place
+row_element_stop r k S V q f = stops r k (elements_tail q) S V (f q).2
 
 pub short_elements : (S : List Sym) (V : List Value) (q : Place) → run [] (elements q ∷ S) V ≡ short
 unfolding run
@@ -297,7 +298,7 @@ unfolding run
 short_element S V q = refl
 
 -- chains
-pub row_cmp : (r : List Token) (k : Token) (S : List Sym) (V : List Value) (c : Comparison) → LinksBy (Some c) k.place k.form → run (k ∷ r) (tail_cmp ∷ S) V ≡ run r (link_symbols k.place c ++ S) (vlinks [] ∷ V)
+pub row_cmp : (r : List Token) (k : Token) (S : List Sym) (V : List Value) (c : LinkStart) → LinksBy (Some c) k.place k.form → run (k ∷ r) (tail_cmp ∷ S) V ≡ run r (link_symbols k.place c ++ S) (vlinks [] ∷ V)
 row_cmp r k S V c f = takes r k tail_cmp S V (link_symbols k.place c) (vlinks [] ∷ []) (f (vlinks [] ∷ []))
 
 pub row_cmp_skip : (r : List Token) (k : Token) (S : List Sym) (V : List Value) → LinksBy None k.place k.form → run (k ∷ r) (tail_cmp ∷ S) V ≡ run (k ∷ r) S V
@@ -307,7 +308,7 @@ pub short_cmp : (S : List Sym) (V : List Value) → run [] (tail_cmp ∷ S) V �
 unfolding run
 short_cmp S V = refl
 
-pub row_link : (r : List Token) (k : Token) (S : List Sym) (V : List Value) (c : Comparison) → LinksBy (Some c) k.place k.form → run (k ∷ r) (links ∷ S) V ≡ run r (link_symbols k.place c ++ S) V
+pub row_link : (r : List Token) (k : Token) (S : List Sym) (V : List Value) (c : LinkStart) → LinksBy (Some c) k.place k.form → run (k ∷ r) (links ∷ S) V ≡ run r (link_symbols k.place c ++ S) V
 row_link r k S V c f = takes r k links S V (link_symbols k.place c) [] (f [])
 
 chain_made : (p : Place) (ls : List RawComparison) (e : RawExpr) (V : List Value) → BeginsWith p ls → made links (vlinks ls ∷ vexpr e ∷ V) ≡ vexpr (node p (exprs.Chain e ls)) ∷ V
@@ -370,4 +371,6 @@ pub ruleset element_rows = (row_no_element, row_element, made_element, row_last_
 
 pub ruleset cmp_rows = (row_cmp, row_cmp_skip, short_cmp, row_link, row_chain, short_links)
 
-pub ruleset link_rows = (row_is_not, row_is, short_is, made_link)
+pub ruleset link_rows = (made_link, begins_first, begins_more)
+
+pub ruleset is_rows = (row_is_not, row_is, short_is)

@@ -4,16 +4,20 @@ use Rattle.py_base.specs.declared.Place.{Place}
 use Rattle.py_tokens.specs.declared.Token.{Token}
 use Rattle.py_tokens.specs.declared.TokenForm.{TokenForm}
 use Rattle.raw_syntax.specs.declared.RawComparison.{RawComparison}
-use Rattle.raw_syntax.specs.declared.Comparison.{Comparison}
-use Rattle.raw_syntax.specs.declared.Comparison.TheVariants as compares
+use Rattle.py_tokens.specs.declared.TokenForm.TheVariants as forms
+use Rattle.py_tokens.specs.declared.Mark.TheVariants as marks
 use Rattle.py_grammar.specs.Symbols.{Value, vexpr, Sym, make, un, tail_post, in_bracket, is_tail, take, skip, stop}
 use Rattle.py_grammar.specs.Makers.{make_negate}
-use Rattle.py_grammar.specs.Moves.{next_un, next_link, compare_with}
+use Rattle.py_grammar.specs.Moves.{next_un, next_link, next_args_tail, next_bracket, next_element, compare_with}
 use Rattle.py_grammar.specs.Machine.{Out, bad, short, run}
 use Rattle.py_parser.specs.declared.fault.Refused.{Refused}
 use Rattle.py_parser.specs.declared.fault.Refused.TheVariants as refusals
 use Rattle.py_parser.specs.declared.start.Start.{Start}
 use Rattle.py_parser.specs.declared.start.Start.TheVariants as starts
+use Rattle.py_parser.specs.declared.start.LinkStart.{LinkStart}
+use Rattle.py_parser.specs.declared.start.LinkStart.TheVariants as linkings
+use Rattle.py_parser.specs.declared.start.Follow.{Follow}
+use Rattle.py_parser.specs.declared.start.Follow.TheVariants as follows
 
 -- the machine's end at a refusal
 abbrev pub out_at : Refused → Out
@@ -32,9 +36,9 @@ LeadsTo X U ts Y v rest (Ok x) = (S : List Sym) (V : List Value) → run ts (X +
 LeadsTo X U ts Y v rest (Err f) = (f ≡ refusals.OutOfMemory → ⊥) → (S : List Sym) (V : List Value) → run ts (X ++ S) (U ++ V) ≡ out_at f
 
 -- what stands for an operator of a chain once its first token is taken
-abbrev pub link_symbols : Place → Comparison → List Sym
-link_symbols p compares.Is = is_tail p ∷ []
-link_symbols p c = compare_with p c
+abbrev pub link_symbols : Place → LinkStart → List Sym
+link_symbols p linkings.Is = is_tail p ∷ []
+link_symbols p (linkings.Plain c) = compare_with p c
 
 -- The links have a first one, and its operator stands here.
 abbrev pub BeginsWith : Place → List RawComparison → Type 0
@@ -49,6 +53,12 @@ StartsWith (starts.Leaf e) p f = next_un p f ≡ take (tail_post ∷ []) (vexpr 
 StartsWith starts.Other p f = next_un p f ≡ stop
 
 -- A link of a chain begins so with the token of this form at this place.
-abbrev pub LinksBy : Option Comparison → Place → TokenForm → Type 0
+abbrev pub LinksBy : Option LinkStart → Place → TokenForm → Type 0
 LinksBy None p f = (vs : List Value) → next_link vs p f ≡ skip
 LinksBy (Some c) p f = (vs : List Value) → next_link vs p f ≡ take (link_symbols p c) vs
+
+-- The token of this form so follows a part of a list in brackets.
+abbrev pub Follows : Follow → TokenForm → Type 0
+Follows follows.Close f = f ≡ forms.Mark marks.CloseParen
+Follows follows.Comma f = f ≡ forms.Mark marks.Comma
+Follows follows.Other f = (q : Place) → (next_args_tail f ≡ stop) × (next_bracket q f ≡ stop) × (next_element q f ≡ stop)

@@ -1,10 +1,7 @@
-//! The parser: the one tree that spells a list of tokens.
+//! The parts of a parser: each function does what the machine of the grammar does at its symbols.
 #![tactic(auto)]
 
-mod expr;
-mod fault;
-mod make;
-mod start;
-
-pub use expr::expression;
-pub use fault::Refused;
+pub mod expr;
+pub mod fault;
+pub mod make;
+pub mod start;

@@ -8,7 +8,12 @@ use raw_syntax::{Arithmetic, Comparison, RawArgument, RawComparison, RawExpr, Ra
 use sqlite_items::{Boxed, Items};
 use std::alloc::Global;
 
-pub fn or_node(alloc: Global, place: Place, left: RawExpr, right: RawExpr) -> Result<RawExpr, Refused>
+pub fn or_node(
+    alloc: Global,
+    place: Place,
+    left: RawExpr,
+    right: RawExpr,
+) -> Result<RawExpr, Refused>
     ensures { MatchResult result (λ x. x ≡ node place (RawExprForm.Or left right)) (λ f. f ≡ Refused.OutOfMemory) }
 {
     Ok(RawExpr {
@@ -17,7 +22,12 @@ pub fn or_node(alloc: Global, place: Place, left: RawExpr, right: RawExpr) -> Re
     })
 }
 
-pub fn and_node(alloc: Global, place: Place, left: RawExpr, right: RawExpr) -> Result<RawExpr, Refused>
+pub fn and_node(
+    alloc: Global,
+    place: Place,
+    left: RawExpr,
+    right: RawExpr,
+) -> Result<RawExpr, Refused>
     ensures { MatchResult result (λ x. x ≡ node place (RawExprForm.And left right)) (λ f. f ≡ Refused.OutOfMemory) }
 {
     Ok(RawExpr {
@@ -44,7 +54,13 @@ pub fn negate_node(alloc: Global, place: Place, operand: RawExpr) -> Result<RawE
     })
 }
 
-pub fn binary_node(alloc: Global, place: Place, sign: Arithmetic, left: RawExpr, right: RawExpr) -> Result<RawExpr, Refused>
+pub fn binary_node(
+    alloc: Global,
+    place: Place,
+    sign: Arithmetic,
+    left: RawExpr,
+    right: RawExpr,
+) -> Result<RawExpr, Refused>
     ensures { MatchResult result (λ x. x ≡ node place (RawExprForm.Binary sign left right)) (λ f. f ≡ Refused.OutOfMemory) }
 {
     Ok(RawExpr {
@@ -53,7 +69,12 @@ pub fn binary_node(alloc: Global, place: Place, sign: Arithmetic, left: RawExpr,
     })
 }
 
-pub fn field_node(alloc: Global, place: Place, object: RawExpr, name: &Text) -> Result<RawExpr, Refused>
+pub fn field_node(
+    alloc: Global,
+    place: Place,
+    object: RawExpr,
+    name: &Text,
+) -> Result<RawExpr, Refused>
     ensures { MatchResult result (λ x. x ≡ node place (RawExprForm.Field object name.now)) (λ f. f ≡ Refused.OutOfMemory) }
 {
     Ok(RawExpr {
@@ -62,7 +83,11 @@ pub fn field_node(alloc: Global, place: Place, object: RawExpr, name: &Text) -> 
     })
 }
 
-pub fn call_node(alloc: Global, called: RawExpr, args: Items<RawArgument>) -> Result<RawExpr, Refused>
+pub fn call_node(
+    alloc: Global,
+    called: RawExpr,
+    args: Items<RawArgument>,
+) -> Result<RawExpr, Refused>
     ensures { MatchResult result (λ x. x ≡ node (place_of called) (RawExprForm.Call called args)) (λ f. f ≡ Refused.OutOfMemory) }
 {
     Ok(RawExpr {
@@ -89,7 +114,12 @@ pub fn tuple_node(place: Place, elements: Items<RawExpr>) -> RawExpr
     }
 }
 
-pub fn chain_node(alloc: Global, place: Place, first: RawExpr, links: Items<RawComparison>) -> Result<RawExpr, Refused>
+pub fn chain_node(
+    alloc: Global,
+    place: Place,
+    first: RawExpr,
+    links: Items<RawComparison>,
+) -> Result<RawExpr, Refused>
     ensures { MatchResult result (λ x. x ≡ node place (RawExprForm.Chain first links)) (λ f. f ≡ Refused.OutOfMemory) }
 {
     Ok(RawExpr {
@@ -98,7 +128,12 @@ pub fn chain_node(alloc: Global, place: Place, first: RawExpr, links: Items<RawC
     })
 }
 
-pub fn push_link(links: &mut Items<RawComparison>, place: Place, operator: Comparison, operand: RawExpr) -> Result<(), Refused>
+pub fn push_link(
+    links: &mut Items<RawComparison>,
+    place: Place,
+    operator: Comparison,
+    operand: RawExpr,
+) -> Result<(), Refused>
     ensures ok { OnOk result (links.new ≡ links.old ++ link place operator operand ∷ []) }
     ensures err { IfErr result (λ f. f ≡ Refused.OutOfMemory) }
 {
@@ -124,4 +159,12 @@ pub fn push_element(elements: &mut Items<RawExpr>, element: RawExpr) -> Result<(
 {
     elements.push(element)?;
     Ok(())
+}
+
+pub fn one_element(alloc: Global, element: RawExpr) -> Result<Items<RawExpr>, Refused>
+    ensures { MatchResult result (λ x. x ≡ element ∷ []) (λ f. f ≡ Refused.OutOfMemory) }
+{
+    let mut list: Items<RawExpr> = Items::new(alloc);
+    list.push(element)?;
+    Ok(list)
 }

@@ -2,7 +2,7 @@
 ghost use Rattle.std.specs.Prelude.{◌≡◌, MatchResult, MatchOption};
 ghost use Rattle.py_base.specs.declared.Place.{Place};
 ghost use Rattle.py_grammar.specs.ExprGrammar.{node};
-ghost use Rattle.py_parser.specs.Leads.{StartsWith, LinksBy};
+ghost use Rattle.py_parser.specs.Leads.{StartsWith, LinksBy, Follows};
 
 use crate::fault::Refused;
 use py_base::Place;
@@ -45,18 +45,49 @@ pub fn operand_start(alloc: Global, first: &Token) -> Result<Start, Refused>
     }
 }
 
+/// What a link of a chain begins with.
+#[derive(Clone, Copy, Debug)]
+pub enum LinkStart {
+    /// The word `is`, which may go on with `not`.
+    Is,
+    /// An operator of one token.
+    Plain(Comparison),
+}
+
 /// The operator of a chain that the token is or begins.
-pub fn link_sign(form: &TokenForm) -> Option<Comparison>
-    ensures { (p : Place) → LinksBy result p form.now }
+pub fn link_sign(token: &Token) -> Option<LinkStart>
+    ensures { LinksBy result token.now.place token.now.form }
 {
-    match form {
-        TokenForm::Mark(Mark::Less) => Some(Comparison::Less),
-        TokenForm::Mark(Mark::LessEqual) => Some(Comparison::LessEqual),
-        TokenForm::Mark(Mark::Greater) => Some(Comparison::Greater),
-        TokenForm::Mark(Mark::GreaterEqual) => Some(Comparison::GreaterEqual),
-        TokenForm::Mark(Mark::Equal) => Some(Comparison::Equal),
-        TokenForm::Mark(Mark::NotEqual) => Some(Comparison::NotEqual),
-        TokenForm::Key(Keyword::Is) => Some(Comparison::Is),
+    match &token.form {
+        TokenForm::Mark(Mark::Less) => Some(LinkStart::Plain(Comparison::Less)),
+        TokenForm::Mark(Mark::LessEqual) => Some(LinkStart::Plain(Comparison::LessEqual)),
+        TokenForm::Mark(Mark::Greater) => Some(LinkStart::Plain(Comparison::Greater)),
+        TokenForm::Mark(Mark::GreaterEqual) => Some(LinkStart::Plain(Comparison::GreaterEqual)),
+        TokenForm::Mark(Mark::Equal) => Some(LinkStart::Plain(Comparison::Equal)),
+        TokenForm::Mark(Mark::NotEqual) => Some(LinkStart::Plain(Comparison::NotEqual)),
+        TokenForm::Key(Keyword::Is) => Some(LinkStart::Is),
         _ => None,
+    }
+}
+
+/// What stands behind a part of a list in brackets.
+#[derive(Clone, Copy, Debug)]
+pub enum Follow {
+    /// The closing bracket.
+    Close,
+    /// A comma.
+    Comma,
+    /// Neither.
+    Other,
+}
+
+/// What the token is behind a part of a list in brackets.
+pub fn what_follows(token: &Token) -> Follow
+    ensures { Follows result token.now.form }
+{
+    match &token.form {
+        TokenForm::Mark(Mark::CloseParen) => Follow::Close,
+        TokenForm::Mark(Mark::Comma) => Follow::Comma,
+        _ => Follow::Other,
     }
 }
