@@ -3,5 +3,7 @@
 
 pub mod expr;
 pub mod fault;
+pub mod fixed;
 pub mod make;
 pub mod start;
+pub mod types;
