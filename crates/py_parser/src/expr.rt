@@ -8,9 +8,10 @@ ghost use Rattle.py_parser.specs.Leads.{LeadsFrom, LeadsTo, link_symbols, Begins
 
 use crate::fault::Refused;
 use crate::make::{
-    and_node, binary_node, bracket_node, call_node, chain_node, field_node, negate_node, not_node, one_element, or_node, push_arg, push_element, push_link, tuple_node,
+    and_node, binary_node, bracket_node, call_node, chain_node, field_node, negate_node, not_node,
+    one_element, or_node, push_arg, push_element, push_link, tuple_node,
 };
-use crate::start::{link_sign, operand_start, what_follows, Follow, LinkStart, Start};
+use crate::start::{Follow, LinkStart, Start, link_sign, operand_start, what_follows};
 use py_base::Place;
 use py_tokens::{Keyword, Mark, Token, TokenForm};
 use raw_syntax::{Arithmetic, Comparison, RawArgument, RawComparison, RawExpr};
@@ -99,7 +100,11 @@ fn called(alloc: Global, callee: RawExpr, ts: &[Token]) -> Result<(RawExpr, &[To
 // An argument, behind those before it.
 #[cycle(parse)]
 #[tactic(auto, using(crate::proofs::Rows::arg_rows))]
-fn arg<'a>(alloc: Global, list: &mut Items<RawArgument>, ts: &'a [Token]) -> Result<&'a [Token], Refused>
+fn arg<'a>(
+    alloc: Global,
+    list: &mut Items<RawArgument>,
+    ts: &'a [Token],
+) -> Result<&'a [Token], Refused>
     ensures leads { LeadsTo (neg ∷ tail_and ∷ tail_or ∷ arg_tail ∷ []) (vargs list.old ∷ []) ts.now [] (vargs list.new) (λ x. x.now) result }
     ensures shorter { IfOk result (λ x. length x.now < length ts.now) }
 {
@@ -162,7 +167,12 @@ fn post(alloc: Global, operand: RawExpr, ts: &[Token]) -> Result<(RawExpr, &[Tok
 // The elements of a tuple behind the first one and its comma.
 #[cycle(parse)]
 #[tactic(auto, using(crate::proofs::Rows::element_rows))]
-fn more_elements(alloc: Global, place: Place, first: RawExpr, ts: &[Token]) -> Result<(RawExpr, &[Token]), Refused>
+fn more_elements(
+    alloc: Global,
+    place: Place,
+    first: RawExpr,
+    ts: &[Token],
+) -> Result<(RawExpr, &[Token]), Refused>
     ensures leads { LeadsFrom (elements place ∷ []) (vexprs (first ∷ []) ∷ []) ts.now (λ x. vexpr x.0) (λ x. x.1.now) result }
     ensures shorter { IfOk result (λ x. length x.1.now < length ts.now) }
 {
@@ -306,7 +316,13 @@ fn sum(alloc: Global, ts: &[Token]) -> Result<(RawExpr, &[Token]), Refused>
 // A link of a chain behind its operator, whose place this is.
 #[cycle(parse)]
 #[tactic(auto, using(crate::proofs::Rows::link_rows))]
-fn plain_link<'a>(alloc: Global, list: &mut Items<RawComparison>, place: Place, sign: Comparison, ts: &'a [Token]) -> Result<&'a [Token], Refused>
+fn plain_link<'a>(
+    alloc: Global,
+    list: &mut Items<RawComparison>,
+    place: Place,
+    sign: Comparison,
+    ts: &'a [Token],
+) -> Result<&'a [Token], Refused>
     ensures leads { LeadsTo (compare_with place sign) (vlinks list.old ∷ []) ts.now (links ∷ []) (vlinks list.new) (λ x. x.now) result }
     ensures shorter { IfOk result (λ x. length x.now < length ts.now) }
     ensures first { IfOk result (λ x. list.old ≡ [] → BeginsWith place list.new) }
@@ -323,7 +339,12 @@ fn plain_link<'a>(alloc: Global, list: &mut Items<RawComparison>, place: Place, 
 // A link of a chain behind the word `is`.
 #[cycle(parse)]
 #[tactic(auto, using(crate::proofs::Rows::is_rows))]
-fn is_link<'a>(alloc: Global, list: &mut Items<RawComparison>, place: Place, ts: &'a [Token]) -> Result<&'a [Token], Refused>
+fn is_link<'a>(
+    alloc: Global,
+    list: &mut Items<RawComparison>,
+    place: Place,
+    ts: &'a [Token],
+) -> Result<&'a [Token], Refused>
     ensures leads { LeadsTo (is_tail place ∷ []) (vlinks list.old ∷ []) ts.now (links ∷ []) (vlinks list.new) (λ x. x.now) result }
     ensures shorter { IfOk result (λ x. length x.now < length ts.now) }
     ensures first { IfOk result (λ x. list.old ≡ [] → BeginsWith place list.new) }
@@ -333,7 +354,13 @@ fn is_link<'a>(alloc: Global, list: &mut Items<RawComparison>, place: Place, ts:
         return Err(Refused::Unfinished);
     };
     match &first.form {
-        TokenForm::Key(Keyword::Not) => match plain_link(alloc, list, place, Comparison::IsNot, after) {
+        TokenForm::Key(Keyword::Not) => match plain_link(
+            alloc,
+            list,
+            place,
+            Comparison::IsNot,
+            after,
+        ) {
             Ok(rest) => Ok(rest),
             Err(f) => Err(f),
         },
@@ -347,7 +374,13 @@ fn is_link<'a>(alloc: Global, list: &mut Items<RawComparison>, place: Place, ts:
 // A link of a chain, behind the first word of its operator, whose place this is.
 #[cycle(parse)]
 #[tactic(auto)]
-fn linked<'a>(alloc: Global, list: &mut Items<RawComparison>, place: Place, sign: LinkStart, ts: &'a [Token]) -> Result<&'a [Token], Refused>
+fn linked<'a>(
+    alloc: Global,
+    list: &mut Items<RawComparison>,
+    place: Place,
+    sign: LinkStart,
+    ts: &'a [Token],
+) -> Result<&'a [Token], Refused>
     ensures leads { LeadsTo (link_symbols place sign) (vlinks list.old ∷ []) ts.now (links ∷ []) (vlinks list.new) (λ x. x.now) result }
     ensures shorter { IfOk result (λ x. length x.now < length ts.now) }
     ensures first { IfOk result (λ x. list.old ≡ [] → BeginsWith place list.new) }
