@@ -1,5 +1,5 @@
 -- What the machine does at a symbol, by what its table says of the next token.
-use Rattle.std.proofs.Common.{ℕ, true, false, ◌≡◌, refl, List, [], ◌∷◌, ◌++◌, Some, None, ap, codes, if◌then◌else◌}
+use Rattle.std.proofs.Common.{ℕ, true, false, ◌≡◌, refl, List, [], ◌∷◌, ◌++◌, Some, None, ap, codes}
 use Rattle.py_tokens.specs.declared.Token.{Token}
 use Rattle.py_tokens.specs.declared.TokenForm.TheVariants as forms
 use Rattle.py_tokens.specs.declared.Keyword.TheVariants as keys
