@@ -4,6 +4,8 @@
 #[cfg(test)]
 mod answers;
 #[cfg(test)]
+mod expressions;
+#[cfg(test)]
 mod fixtures;
 #[cfg(test)]
 mod outside;
