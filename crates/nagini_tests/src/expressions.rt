@@ -54,11 +54,37 @@ fn write(e: &RawExpr, out: &mut Vec<u8>) -> Result<(), AllocError> {
             put_count(out, list.len())?;
             put(out, b")")
         }
-        RawExprForm::Negate(a) => write_prefixed(b"(-", a.get(), out),
-        RawExprForm::Not(a) => write_prefixed(b"(not ", a.get(), out),
-        RawExprForm::Binary(sign, a, b) => write_between(a.get(), sign_of(sign), b.get(), out),
-        RawExprForm::And(a, b) => write_between(a.get(), b" and ", b.get(), out),
-        RawExprForm::Or(a, b) => write_between(a.get(), b" or ", b.get(), out),
+        RawExprForm::Negate(a) => {
+            put(out, b"(-")?;
+            write(a.get(), out)?;
+            put(out, b")")
+        }
+        RawExprForm::Not(a) => {
+            put(out, b"(not ")?;
+            write(a.get(), out)?;
+            put(out, b")")
+        }
+        RawExprForm::Binary(sign, a, b) => {
+            put(out, b"(")?;
+            write(a.get(), out)?;
+            put(out, sign_of(sign))?;
+            write(b.get(), out)?;
+            put(out, b")")
+        }
+        RawExprForm::And(a, b) => {
+            put(out, b"(")?;
+            write(a.get(), out)?;
+            put(out, b" and ")?;
+            write(b.get(), out)?;
+            put(out, b")")
+        }
+        RawExprForm::Or(a, b) => {
+            put(out, b"(")?;
+            write(a.get(), out)?;
+            put(out, b" or ")?;
+            write(b.get(), out)?;
+            put(out, b")")
+        }
         RawExprForm::Chain(a, list) => {
             put(out, b"[")?;
             write(a.get(), out)?;
@@ -67,25 +93,6 @@ fn write(e: &RawExpr, out: &mut Vec<u8>) -> Result<(), AllocError> {
         }
         _ => put(out, b"_"),
     }
-}
-
-fn write_prefixed(front: &[u8], e: &RawExpr, out: &mut Vec<u8>) -> Result<(), AllocError> {
-    put(out, front)?;
-    write(e, out)?;
-    put(out, b")")
-}
-
-fn write_between(
-    a: &RawExpr,
-    sign: &[u8],
-    b: &RawExpr,
-    out: &mut Vec<u8>,
-) -> Result<(), AllocError> {
-    put(out, b"(")?;
-    write(a, out)?;
-    put(out, sign)?;
-    write(b, out)?;
-    put(out, b")")
 }
 
 /// What a text of at most a hundred bytes is as an expression, and how many tokens stand behind it;
