@@ -6,7 +6,8 @@ use Rattle.py_tokens.specs.declared.TokenForm.{TokenForm}
 use Rattle.py_grammar.specs.TokenFronts.{Has}
 use Rattle.py_grammar.specs.Symbols.{Value, Sym, make, Move, take, skip, stop}
 use Rattle.py_grammar.specs.Moves.{next, made, and_then}
-use Rattle.py_grammar.specs.Machine.{then_do, step, Out, bad, run}
+use Rattle.py_grammar.specs.Machine.{run}
+use Rattle.py_grammar.specs.MachineRows.{moved, passed_by, row_make, expand_by}
 
 -- A run comes from these tokens, symbols and values to those.
 pub record To (ts : List Token) (S : List Sym) (V : List Value) (us : List Token) (T : List Sym) (W : List Value) : Type 0 where
@@ -16,10 +17,6 @@ infixr 30 ◌⊳◌
 pub ◌⊳◌ : {ts us xs : List Token} {S T U : List Sym} {V W Y : List Value} → To ts S V us T W → To us T W xs U Y → To ts S V xs U Y
 a ⊳ b = record { same = a.same ∙ b.same }
 
-moved : (r : List Token) (k : Token) (X : Sym) (S : List Sym) (V : List Value) (m : Move) → next X k.place k.form ≡ m → run (k ∷ r) (X ∷ S) V ≡ (elim (then_do m (λ ys vs. Some (ys ++ S, vs ++ V)) (step S (made X V) k)) as (λ _. Out) [ None ↦ bad k.place | Some c ↦ run r c.0 c.1 ])
-unfolding run
-moved r k X S V m f = ap (λ (m : Move). elim (then_do m (λ ys vs. Some (ys ++ S, vs ++ V)) (step S (made X V) k)) as (λ _. Out) [ None ↦ bad k.place | Some c ↦ run r c.0 c.1 ]) f
-
 -- the token is taken
 took_at : (X : Sym) (S : List Sym) (V : List Value) (p : Place) (f : TokenForm) (ts rest : List Token) (ys : List Sym) (vs : List Value) → Has p f ts rest → next X p f ≡ take ys vs → run ts (X ∷ S) V ≡ run rest (ys ++ S) (vs ++ V)
 took_at X S V p f ts rest ys vs (e, h) n = subst (λ (z : List Token). run z (X ∷ S) V ≡ run rest (ys ++ S) (vs ++ V)) (sym h) (moved rest (record { place = p; «end» = e; form = f }) X S V (take ys vs) n)
@@ -27,37 +24,20 @@ took_at X S V p f ts rest ys vs (e, h) n = subst (λ (z : List Token). run z (X 
 pub took : {X : Sym} {S : List Sym} {V : List Value} {p : Place} {f : TokenForm} {ts rest : List Token} {ys : List Sym} {vs : List Value} → Has p f ts rest → next X p f ≡ take ys vs → To ts (X ∷ S) V rest (ys ++ S) (vs ++ V)
 took {X} {S} {V} {p} {f} {ts} {rest} {ys} {vs} h n = record { same = took_at X S V p f ts rest ys vs h n }
 
-skip_step : (r : List Token) (k : Token) (X : Sym) (S : List Sym) (V : List Value) → next X k.place k.form ≡ skip → run (k ∷ r) (X ∷ S) V ≡ run (k ∷ r) S (made X V)
-unfolding run
-skip_step r k X S V n = moved r k X S V skip n
-
 skipped_at : (X : Sym) (S : List Sym) (V : List Value) (p : Place) (f : TokenForm) (ts rest : List Token) → Has p f ts rest → next X p f ≡ skip → run ts (X ∷ S) V ≡ run ts S (made X V)
-skipped_at X S V p f ts rest (e, h) n = subst (λ (z : List Token). run z (X ∷ S) V ≡ run z S (made X V)) (sym h) (skip_step rest (record { place = p; «end» = e; form = f }) X S V n)
+skipped_at X S V p f ts rest (e, h) n = subst (λ (z : List Token). run z (X ∷ S) V ≡ run z S (made X V)) (sym h) (passed_by rest (record { place = p; «end» = e; form = f }) X S V n)
 
 -- the token isn't wanted here
 pub skipped : {X : Sym} {S : List Sym} {V : List Value} {p : Place} {f : TokenForm} {ts rest : List Token} → Has p f ts rest → next X p f ≡ skip → To ts (X ∷ S) V ts S (made X V)
 skipped {X} {S} {V} {p} {f} {ts} {rest} h n = record { same = skipped_at X S V p f ts rest h n }
 
-makes_at : (g : List Value → List Value) (S : List Sym) (V : List Value) (ts : List Token) → run ts (make g ∷ S) V ≡ run ts S (g V)
-unfolding run
-makes_at g S V [] = refl
-makes_at g S V (k ∷ ts) = refl
-
 -- what is made takes no token
 pub makes : {g : List Value → List Value} {S : List Sym} {V : List Value} {ts : List Token} → To ts (make g ∷ S) V ts S (g V)
-makes {g} {S} {V} {ts} = record { same = makes_at g S V ts }
+makes {g} {S} {V} {ts} = record { same = row_make g S V ts }
 
 -- nothing happens
 pub stays : {S : List Sym} {V W : List Value} {ts : List Token} → V ≡ W → To ts S V ts S W
 stays {S} {V} {W} {ts} e = record { same = ap (λ (x : List Value). run ts S x) e }
-
-expand_by : (m : Move) (X Y : Sym) (zs : List Sym) (r : List Token) (k : Token) (S : List Sym) (V : List Value) → next Y k.place k.form ≡ m → next X k.place k.form ≡ and_then m zs → (m ≡ skip → ⊥) → run (k ∷ r) (X ∷ S) V ≡ run (k ∷ r) (Y ∷ zs ++ S) V
-expand_by (take ys vs) X Y zs r k S V y x n =
-    moved r k X S V (take (ys ++ zs) vs) x
-    ∙ ap (λ (T : List Sym). run r T (vs ++ V)) (append_assoc ys zs S)
-    ∙ sym (moved r k Y (zs ++ S) V (take ys vs) y)
-expand_by skip X Y zs r k S V y x n = absurd (n refl)
-expand_by stop X Y zs r k S V y x n = moved r k X S V stop x ∙ sym (moved r k Y (zs ++ S) V stop y)
 
 expands_at : (X : Sym) (S : List Sym) (V : List Value) (p : Place) (f : TokenForm) (ts rest : List Token) (Y : Sym) (zs : List Sym) → Has p f ts rest → next X p f ≡ and_then (next Y p f) zs → (next Y p f ≡ skip → ⊥) → run ts (X ∷ S) V ≡ run ts (Y ∷ zs ++ S) V
 expands_at X S V p f ts rest Y zs (e, h) x n = subst (λ (z : List Token). run z (X ∷ S) V ≡ run z (Y ∷ zs ++ S) V) (sym h) (expand_by (next Y p f) X Y zs rest (record { place = p; «end» = e; form = f }) S V refl x n)

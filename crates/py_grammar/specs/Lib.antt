@@ -8,4 +8,5 @@ pub mod Symbols
 pub mod Makers
 pub mod Moves
 pub mod Machine
+pub mod MachineRows
 pub mod SmallModules

@@ -1,8 +1,8 @@
 // Tokens that are wanted as they are, and names.
 ghost use Rattle.std.specs.Prelude.{◌≡◌, ◌<◌, IfOk, length, [], ◌∷◌};
 ghost use Rattle.py_grammar.specs.Symbols.{fits, fixed, vname, want_name};
-ghost use Rattle.py_parser.specs.Leads.{LeadsFrom};
-ghost use Rattle.py_parser.specs.Passes.{Passes, fixed_of};
+ghost use Rattle.expr_parser.specs.Leads.{LeadsFrom};
+ghost use Rattle.expr_parser.specs.Passes.{Passes, fixed_of};
 
 use crate::expr::split;
 use crate::fault::Refused;

@@ -2,7 +2,7 @@
 ghost use Rattle.std.specs.Prelude.{◌≡◌, MatchResult, MatchOption};
 ghost use Rattle.py_base.specs.declared.Place.{Place};
 ghost use Rattle.py_grammar.specs.ExprGrammar.{node};
-ghost use Rattle.py_parser.specs.Leads.{StartsWith, LinksBy, Follows};
+ghost use Rattle.expr_parser.specs.Leads.{StartsWith, LinksBy, Follows};
 
 use crate::fault::Refused;
 use py_base::Place;

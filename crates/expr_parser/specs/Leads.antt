@@ -10,14 +10,14 @@ use Rattle.py_grammar.specs.Symbols.{Value, vexpr, Sym, make, un, tail_post, in_
 use Rattle.py_grammar.specs.Makers.{make_negate}
 use Rattle.py_grammar.specs.Moves.{next_un, next_link, next_args_tail, next_bracket, next_element, compare_with}
 use Rattle.py_grammar.specs.Machine.{Out, bad, short, run}
-use Rattle.py_parser.specs.declared.fault.Refused.{Refused}
-use Rattle.py_parser.specs.declared.fault.Refused.TheVariants as refusals
-use Rattle.py_parser.specs.declared.start.Start.{Start}
-use Rattle.py_parser.specs.declared.start.Start.TheVariants as starts
-use Rattle.py_parser.specs.declared.start.LinkStart.{LinkStart}
-use Rattle.py_parser.specs.declared.start.LinkStart.TheVariants as linkings
-use Rattle.py_parser.specs.declared.start.Follow.{Follow}
-use Rattle.py_parser.specs.declared.start.Follow.TheVariants as follows
+use Rattle.expr_parser.specs.declared.fault.Refused.{Refused}
+use Rattle.expr_parser.specs.declared.fault.Refused.TheVariants as refusals
+use Rattle.expr_parser.specs.declared.start.Start.{Start}
+use Rattle.expr_parser.specs.declared.start.Start.TheVariants as starts
+use Rattle.expr_parser.specs.declared.start.LinkStart.{LinkStart}
+use Rattle.expr_parser.specs.declared.start.LinkStart.TheVariants as linkings
+use Rattle.expr_parser.specs.declared.start.Follow.{Follow}
+use Rattle.expr_parser.specs.declared.start.Follow.TheVariants as follows
 
 -- the machine's end at a refusal
 abbrev pub out_at : Refused → Out

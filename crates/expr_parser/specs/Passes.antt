@@ -3,11 +3,11 @@ use Rattle.std.specs.Prelude.{List, ◌++◌, ◌≡◌, Result, Ok, Err}
 use Rattle.py_tokens.specs.declared.Token.{Token}
 use Rattle.py_grammar.specs.Symbols.{Value, Fixed, newline, indent, colon, assign, arrow, open_paren, close_paren, close_bracket, word_def, word_import, Sym}
 use Rattle.py_grammar.specs.Machine.{run}
-use Rattle.py_parser.specs.Leads.{out_at}
-use Rattle.py_parser.specs.declared.fault.Refused.{Refused}
-use Rattle.py_parser.specs.declared.fault.Refused.TheVariants as refusals
-use Rattle.py_parser.specs.declared.fixed.Wanted.{Wanted}
-use Rattle.py_parser.specs.declared.fixed.Wanted.TheVariants as wants
+use Rattle.expr_parser.specs.Leads.{out_at}
+use Rattle.expr_parser.specs.declared.fault.Refused.{Refused}
+use Rattle.expr_parser.specs.declared.fault.Refused.TheVariants as refusals
+use Rattle.expr_parser.specs.declared.fixed.Wanted.{Wanted}
+use Rattle.expr_parser.specs.declared.fixed.Wanted.TheVariants as wants
 
 -- The machine goes past these symbols and makes nothing, unless memory ran out.
 abbrev pub Passes : {T : Type 0} → List Sym → List Token → (T → List Token) → Result T Refused → Type 0

@@ -1,12 +1,9 @@
--- What the machine does at a symbol, by what its table says of the next token.
-use Rattle.std.proofs.Common.{ℕ, true, false, ◌≡◌, refl, List, [], ◌∷◌, ◌++◌, Some, None, ap, codes}
+-- What the machine does at a symbol, by what its table says of the next token. Laws that the parsers share.
+use Rattle.std.proofs.Common.{ℕ, true, false, ◌≡◌, refl, sym, ◌∙◌, List, [], ◌∷◌, ◌++◌, Some, None, ap, append_assoc}
 use Rattle.py_tokens.specs.declared.Token.{Token}
 use Rattle.py_tokens.specs.declared.TokenForm.TheVariants as forms
-use Rattle.py_tokens.specs.declared.Keyword.TheVariants as keys
-use Rattle.py_tokens.specs.declared.Mark.TheVariants as marks
-use Rattle.py_grammar.specs.Symbols.{Value, vname, Fixed, close_bracket, fits, Sym, fixed, make, want_name, ty_atom, ty_tail, Move, take, skip, stop}
-use Rattle.py_grammar.specs.Makers.{make_head, make_inner}
-use Rattle.py_grammar.specs.Moves.{next, made, next_name, next_ty_atom, next_ty_tail}
+use Rattle.py_grammar.specs.Symbols.{Value, vname, Fixed, fits, Sym, fixed, make, want_name, Move, take, skip, stop}
+use Rattle.py_grammar.specs.Moves.{next, made, and_then, next_name}
 use Rattle.py_grammar.specs.Machine.{then_do, step, Out, bad, short, is_make, run}
 
 pub moved : (r : List Token) (k : Token) (X : Sym) (S : List Sym) (V : List Value) (m : Move) → next X k.place k.form ≡ m → run (k ∷ r) (X ∷ S) V ≡ (elim (then_do m (λ ys vs. Some (ys ++ S, vs ++ V)) (step S (made X V) k)) as (λ _. Out) [ None ↦ bad k.place | Some c ↦ run r c.0 c.1 ])
@@ -31,6 +28,15 @@ pub ended : (X : Sym) (S : List Sym) (V : List Value) → is_make X ≡ false �
 unfolding run
 ended X S V f = rw f refl
 
+-- a symbol that does what another does, and then these
+pub expand_by : (m : Move) (X Y : Sym) (zs : List Sym) (r : List Token) (k : Token) (S : List Sym) (V : List Value) → next Y k.place k.form ≡ m → next X k.place k.form ≡ and_then m zs → (m ≡ skip → ⊥) → run (k ∷ r) (X ∷ S) V ≡ run (k ∷ r) (Y ∷ zs ++ S) V
+expand_by (take ys vs) X Y zs r k S V y x n =
+    moved r k X S V (take (ys ++ zs) vs) x
+    ∙ ap (λ (T : List Sym). run r T (vs ++ V)) (append_assoc ys zs S)
+    ∙ sym (moved r k Y (zs ++ S) V (take ys vs) y)
+expand_by skip X Y zs r k S V y x n = absurd (n refl)
+expand_by stop X Y zs r k S V y x n = moved r k X S V stop x ∙ sym (moved r k Y (zs ++ S) V stop y)
+
 -- what is made takes no token
 pub row_make : (g : List Value → List Value) (S : List Sym) (V : List Value) (ts : List Token) → run ts (make g ∷ S) V ≡ run ts S (g V)
 unfolding run
@@ -47,7 +53,6 @@ row_fixed_stop r k x S V f = stopped r k (fixed x) S V (rw f refl)
 pub short_fixed : (x : Fixed) (S : List Sym) (V : List Value) → run [] (fixed x ∷ S) V ≡ short
 short_fixed x S V = ended (fixed x) S V refl
 
-pub ruleset fixed_rows = (row_fixed, row_fixed_stop, short_fixed)
 
 -- names
 pub row_name : (r : List Token) (k : Token) (S : List Sym) (V : List Value) (n : List ℕ) → k.form ≡ forms.Name n → run (k ∷ r) (want_name ∷ S) V ≡ run r S (vname k.place n ∷ V)
@@ -58,34 +63,3 @@ row_no_name r k S V f = stopped r k want_name S V f
 
 pub short_name : (S : List Sym) (V : List Value) → run [] (want_name ∷ S) V ≡ short
 short_name S V = ended want_name S V refl
-
-pub ruleset name_rows = (row_name, row_no_name, short_name)
-
--- types
-pub row_atom_name : (r : List Token) (k : Token) (S : List Sym) (V : List Value) (n : List ℕ) → k.form ≡ forms.Name n → run (k ∷ r) (ty_atom ∷ S) V ≡ run r S (vname k.place n ∷ V)
-row_atom_name r k S V n f = taken r k ty_atom S V [] (vname k.place n ∷ []) (rw f refl)
-
-pub row_atom_string : (r : List Token) (k : Token) (S : List Sym) (V : List Value) (n : List ℕ) → k.form ≡ forms.Str n → run (k ∷ r) (ty_atom ∷ S) V ≡ run r S (vname k.place n ∷ V)
-row_atom_string r k S V n f = taken r k ty_atom S V [] (vname k.place n ∷ []) (rw f refl)
-
-pub row_atom_none : (r : List Token) (k : Token) (S : List Sym) (V : List Value) → k.form ≡ forms.Key keys.None → run (k ∷ r) (ty_atom ∷ S) V ≡ run r S (vname k.place (codes "None") ∷ V)
-row_atom_none r k S V f = taken r k ty_atom S V [] (vname k.place (codes "None") ∷ []) (rw f refl)
-
-pub row_no_atom : (r : List Token) (k : Token) (S : List Sym) (V : List Value) → next_ty_atom k.place k.form ≡ stop → run (k ∷ r) (ty_atom ∷ S) V ≡ bad k.place
-row_no_atom r k S V f = stopped r k ty_atom S V f
-
-pub short_atom : (S : List Sym) (V : List Value) → run [] (ty_atom ∷ S) V ≡ short
-short_atom S V = ended ty_atom S V refl
-
-pub ruleset atom_rows = (row_atom_name, row_atom_string, row_atom_none, row_no_atom, short_atom)
-
-pub row_inner : (r : List Token) (k : Token) (S : List Sym) (V : List Value) → k.form ≡ forms.Mark marks.OpenBracket → run (k ∷ r) (ty_tail ∷ S) V ≡ run r (ty_atom ∷ fixed close_bracket ∷ make make_inner ∷ S) V
-row_inner r k S V f = taken r k ty_tail S V (ty_atom ∷ fixed close_bracket ∷ make make_inner ∷ []) [] (rw f refl)
-
-pub row_no_inner : (r : List Token) (k : Token) (S : List Sym) (V : List Value) → next_ty_tail k.form ≡ skip → run (k ∷ r) (ty_tail ∷ S) V ≡ run (k ∷ r) S (make_head V)
-row_no_inner r k S V f = passed_by r k ty_tail S V f
-
-pub short_ty_tail : (S : List Sym) (V : List Value) → run [] (ty_tail ∷ S) V ≡ short
-short_ty_tail S V = ended ty_tail S V refl
-
-pub ruleset type_rows = (row_inner, row_no_inner, row_make, short_ty_tail)

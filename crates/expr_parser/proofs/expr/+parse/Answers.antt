@@ -10,10 +10,10 @@ use Rattle.py_grammar.specs.Symbols.{Sym, Value, vexpr, vexprs, vlinks, make, ne
 use Rattle.py_grammar.specs.Makers.{make_binary, make_element, make_link}
 use Rattle.py_grammar.specs.Moves.{and_then, next_neg, next_un, next_is, next_elements}
 use Rattle.py_grammar.specs.Machine.{run}
-use Rattle.py_parser.specs.Leads.{StartsWith, link_symbols}
-use Rattle.py_parser.proofs.Rows.{row_prod, row_sum, made_binary, row_cmp, row_link, row_is_not, row_is, row_element, made_element, row_last_element, row_element_comma, row_element_stop, short_element, row_dot, row_leaf}
-use Rattle.py_parser.proofs.expr.+parse.Goals as goal
-use Rattle.py_parser.proofs.expr.+parse.Goals.{is_link-in_default-form-via-in-Key+in_default, is_link-in_default-form-via-in_default, more_elements-in-Mark+in-OpenParen-1, more_elements-in-Name-1}
+use Rattle.expr_parser.specs.Leads.{StartsWith, link_symbols}
+use Rattle.expr_parser.proofs.Rows.{row_prod, row_sum, made_binary, row_cmp, row_link, row_is_not, row_is, row_element, made_element, row_last_element, row_element_comma, row_element_stop, short_element, row_dot, row_leaf}
+use Rattle.expr_parser.proofs.expr.+parse.Goals as goal
+use Rattle.expr_parser.proofs.expr.+parse.Goals.{is_link-in_default-form-via-in-Key+in_default, is_link-in_default-form-via-in_default, more_elements-in-Mark+in-OpenParen-1, more_elements-in-Name-1}
 
 pub product-returns-in-Err-unary-clause-leads : goal.product-returns-in-Err-unary-clause-leads
 product-returns-in-Err-unary-clause-leads n c f S V =

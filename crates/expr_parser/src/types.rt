@@ -2,7 +2,7 @@
 ghost use Rattle.std.specs.Prelude.{◌≡◌, ◌<◌, ◌≤◌, IfOk, MatchResult, Some, None, length, [], ◌∷◌, codes};
 ghost use Rattle.py_grammar.specs.Symbols.{vname, vty, ty_atom, ty_tail};
 ghost use Rattle.py_grammar.specs.StmtGrammar.{type_of};
-ghost use Rattle.py_parser.specs.Leads.{LeadsFrom};
+ghost use Rattle.expr_parser.specs.Leads.{LeadsFrom};
 
 use crate::expr::split;
 use crate::fault::Refused;
@@ -35,7 +35,8 @@ pub fn ty_atom(alloc: Global, ts: &[Token]) -> Result<(Word, &[Token]), Refused>
     }
 }
 
-fn head_alone(head: Word) -> RawTy
+/// A type of this name alone.
+pub fn head_alone(head: Word) -> RawTy
     ensures { result ≡ type_of head.place head.text None }
 {
     RawTy {
@@ -45,7 +46,8 @@ fn head_alone(head: Word) -> RawTy
     }
 }
 
-fn head_with(head: Word, inner: Word) -> RawTy
+/// A type of this name with another in brackets.
+pub fn head_with(head: Word, inner: Word) -> RawTy
     ensures { result ≡ type_of head.place head.text (Some inner.text) }
 {
     RawTy {

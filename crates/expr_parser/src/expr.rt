@@ -4,7 +4,7 @@ ghost use Rattle.py_base.specs.declared.Place.{Place};
 ghost use Rattle.py_grammar.specs.Symbols.{vexpr, vexprs, vargs, vlinks, make, want_name, is_tail, neg, un, tail_post, tail_prod, tail_sum, tail_cmp, links, tail_and, tail_or, in_bracket, elements, args, arg_tail, skip, take};
 ghost use Rattle.py_grammar.specs.Makers.{make_field, make_binary};
 ghost use Rattle.py_grammar.specs.Moves.{next_sum, next_prod, compare_with};
-ghost use Rattle.py_parser.specs.Leads.{LeadsFrom, LeadsTo, link_symbols, BeginsWith};
+ghost use Rattle.expr_parser.specs.Leads.{LeadsFrom, LeadsTo, link_symbols, BeginsWith};
 
 use crate::fault::Refused;
 use crate::make::{

@@ -1,8 +1,8 @@
 use Rattle.std.proofs.Common.{◌≡◌, ◌<◌, ◌≤◌, List, [], ◌∷◌, length, ◌+◌, ◌*◌}
 use Rattle.py_grammar.specs.Symbols.{Sym, Value, vexpr, vexprs, vargs, vlinks, neg, un, tail_post, tail_prod, tail_sum, tail_cmp, links, tail_and, tail_or, elements, args}
 use Rattle.py_grammar.specs.Machine.{run}
-use Rattle.py_parser.specs.Leads.{BeginsWith}
-use Rattle.py_parser.proofs.expr.+parse.Given as goal
+use Rattle.expr_parser.specs.Leads.{BeginsWith}
+use Rattle.expr_parser.proofs.expr.+parse.Given as goal
 
 abbrev pub decreases-post : goal.decreases-post
 decreases-post l = length l.ts.now * 16 + 13

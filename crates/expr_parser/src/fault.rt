@@ -15,7 +15,7 @@ pub enum Refused {
 
 impl From<AllocError> for Refused {
     ghost use Rattle.std.specs.Prelude.{◌≡◌};
-    ghost use Rattle.py_parser.specs.declared.fault.Refused.TheVariants as refusals;
+    ghost use Rattle.expr_parser.specs.declared.fault.Refused.TheVariants as refusals;
 
     ghost from_gives = { λ _ e. e ≡ refusals.OutOfMemory };
 
@@ -26,7 +26,7 @@ impl From<AllocError> for Refused {
 
 impl<T: Drop> From<AllocFailed<T>> for Refused {
     ghost use Rattle.std.specs.Prelude.{◌≡◌};
-    ghost use Rattle.py_parser.specs.declared.fault.Refused.TheVariants as refusals;
+    ghost use Rattle.expr_parser.specs.declared.fault.Refused.TheVariants as refusals;
 
     ghost from_gives = { λ _ e. e ≡ refusals.OutOfMemory };
 
@@ -37,7 +37,7 @@ impl<T: Drop> From<AllocFailed<T>> for Refused {
 
 impl From<OutOfMemory> for Refused {
     ghost use Rattle.std.specs.Prelude.{◌≡◌};
-    ghost use Rattle.py_parser.specs.declared.fault.Refused.TheVariants as refusals;
+    ghost use Rattle.expr_parser.specs.declared.fault.Refused.TheVariants as refusals;
 
     ghost from_gives = { λ _ e. e ≡ refusals.OutOfMemory };
 
