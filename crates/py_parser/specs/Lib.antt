@@ -1,0 +1,10 @@
+pub mod Limits
+pub mod Counts
+pub mod Depths
+pub mod Openings
+pub mod Reading
+pub mod Parsing
+pub mod Begins
+pub mod Heads
+pub mod FunctionFronts
+pub mod SimpleFronts

@@ -1,0 +1,17 @@
+// A law of the answers.
+ghost use Rattle.std.specs.Prelude.{◌≡◌, List, Result, Err};
+ghost use Rattle.py_tokens.specs.declared.Token.{Token};
+ghost use Rattle.raw_syntax.specs.declared.Raw.{Raw};
+ghost use Rattle.py_parser.specs.declared.fault.ParseFault.{ParseFault};
+ghost use Rattle.py_parser.specs.declared.fault.ParseFault.TheVariants.{OutOfMemory};
+ghost use Rattle.py_parser.specs.Parsing.{IsAnswer};
+
+use py_grammar::one_tree;
+
+/// A list of tokens has one answer: the tree that it spells, or one fault at one place. The answer that memory ran out
+/// says nothing of the tokens.
+pub fn a_list_of_tokens_has_one_answer()
+    ensures { (ts : List Token) (a b : Result Raw ParseFault) → IsAnswer ts a → IsAnswer ts b → ¬ (a ≡ Err OutOfMemory) → ¬ (b ≡ Err OutOfMemory) → a ≡ b }
+{
+    one_tree();
+}
