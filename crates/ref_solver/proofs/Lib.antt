@@ -4,3 +4,5 @@ pub mod Collecting
 pub mod Linking
 pub mod Exact
 pub mod Merged
+pub mod Opposing
+pub mod Finding

@@ -1,5 +1,5 @@
 -- What one step from the literals and the classes says.
-use Rattle.std.specs.Prelude.{◌≡◌, ◌⊎◌, ℕ, ◌==◌, Bool, true, false, ◌&&◌, ◌||◌, ℤ, List, [], ◌∷◌, ◌++◌, length, Contains, Some, slice_get}
+use Rattle.std.specs.Prelude.{◌≡◌, ◌⊎◌, ◌↔◌, ℕ, ◌==◌, IsTrue, Bool, true, false, ◌&&◌, ◌||◌, ℤ, List, [], ◌∷◌, ◌++◌, length, Contains, Some, slice_get}
 use Rattle.std.specs.List.{list_any}
 use Rattle.std.specs.Ordering.{int_eq}
 use Rattle.std.proofs.Common.{refl, ap, sym, subst, ◌∙◌, inl, inr, arith, zero, suc}
@@ -26,7 +26,7 @@ pub some_of : {X : Type 0} (p : X → Bool) (xs : List X) → list_any p xs ≡ 
 some_of p [] h = absurd (cc)
 some_of p (x ∷ xs) h = some_step p x xs (some_of p xs) (p x) refl h
 
-or_right : (a b : Bool) → b ≡ true → (a || b) ≡ true
+pub or_right : (a b : Bool) → b ≡ true → (a || b) ≡ true
 or_right true b h = refl
 or_right false b h = h
 
@@ -62,6 +62,10 @@ are_together cs s t h =
 pub together_are : (cs : List (List Term)) (s t : Term) → AreTogether cs s t → together cs s t ≡ true
 together_are cs s t (c, there, p, q) =
     any_from (has_both s t) cs c there (and_both (has s c) (has t c) (it_has s c p) (it_has t c q))
+
+pub told_together : (cs : List (List Term)) (s t : Term) (b : Bool) → b ≡ together cs s t → IsTrue b ↔ AreTogether cs s t
+told_together cs s t b e =
+    (λ h. are_together cs s t (sym e ∙ h), λ h. e ∙ together_are cs s t h)
 
 -- a term by its form
 by_form : (s t : Term) (x : Term-F Term) → out-Term s ≡ x → out-Term t ≡ x → s ≡ t

@@ -1,2 +1,4 @@
 pub mod Following
 pub mod Classes
+pub mod Clashing
+pub mod Opposites

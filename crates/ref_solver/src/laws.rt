@@ -6,6 +6,7 @@ ghost use Rattle.terms.specs.Sorts.{sorted};
 ghost use Rattle.terms.specs.Meanings.{Valued, Holds, meaning_at};
 ghost use Rattle.terms.specs.Fitting.{Fits, terms_in};
 ghost use Rattle.ref_solver.specs.Following.{Follows};
+ghost use Rattle.ref_solver.specs.Clashing.{Clash};
 
 /// Where a valuation fits sorted literals and they hold, terms whose equality follows mean the same.
 pub fn equal_terms_mean_the_same()
@@ -16,6 +17,11 @@ pub fn equal_terms_mean_the_same()
 /// What follows from literals follows from more.
 pub fn equalities_stay_with_more()
     ensures { (ls more : List Literal) (s t : Term) → Follows ls s t → Follows (ls ++ more) s t }
+{}
+
+/// Literals that clash still do with more.
+pub fn clashes_stay_with_more()
+    ensures { (ls more : List Literal) → Clash ls → Clash (ls ++ more) }
 {}
 
 /// Equalities follow between terms of the literals alone.

@@ -1,4 +1,6 @@
 // What no clause says: that calls succeed.
+ghost use Rattle.std.specs.Prelude.{◌^◌, ◌<◌, length};
+
 use super::*;
 use py_base::OutOfMemory;
 use sqlite_items::Items;
@@ -77,5 +79,132 @@ fn no_literals_have_no_classes(rt: HostRuntime) -> Result<(), Fail> {
     let alloc = rt.alloc();
     let classes = equal_classes(alloc, &[]).map_err(|_| "no classes")?;
     assert_eq!(rt; classes.len(), 0);
+    Ok(())
+}
+
+fn apart(a: u32, b: u32) -> Literal {
+    Literal::Apart(Term::RefSym(a), Term::RefSym(b))
+}
+
+// The place of the first clash.
+fn first_clash_in(alloc: Global, lits: &[Literal]) -> Result<Option<u32>, OutOfMemory>
+    requires { length lits.now < 2 ^ 32 }
+{
+    let closure = close(alloc, lits)?;
+    Ok(closure.clash())
+}
+
+// f(x0) is x1 and equal to x0, and f(x1) is x2
+fn fixed_point(alloc: Global) -> Result<Items<Literal>, OutOfMemory> {
+    let first = apply(alloc, Term::Sym(0), Term::Sym(1))?;
+    let second = apply(alloc, Term::Sym(1), Term::Sym(2))?;
+    let mut lits = Items::new(alloc);
+    lits.push(Literal::Same(first, Term::Sym(0)))?;
+    lits.push(Literal::AtMost(second, Term::Lit(0)))?;
+    lits.push(Literal::Apart(Term::Sym(0), Term::Sym(2)))?;
+    Ok(lits)
+}
+
+// f(f(x)), where f(x) is y and f(y) is z
+fn applied_twice(alloc: Global, x: u32, y: u32, z: u32) -> Result<Term, OutOfMemory> {
+    let inner = apply(alloc, Term::Sym(x), Term::Sym(y))?;
+    apply(alloc, inner, Term::Sym(z))
+}
+
+// f(f(x0)) is x3, f(f(x4)) is x6, these differ, and last x0 is x4
+fn deep(alloc: Global) -> Result<Items<Literal>, OutOfMemory> {
+    let left = applied_twice(alloc, 0, 2, 3)?;
+    let right = applied_twice(alloc, 4, 5, 6)?;
+    let mut lits = Items::new(alloc);
+    lits.push(Literal::AtMost(left, right))?;
+    lits.push(Literal::Apart(Term::Sym(3), Term::Sym(6)))?;
+    lits.push(Literal::AtMost(Term::Lit(1), Term::Sym(3)))?;
+    lits.push(Literal::Same(Term::Sym(0), Term::Sym(4)))?;
+    lits.push(Literal::Flag(1, true))?;
+    Ok(lits)
+}
+
+#[test]
+fn a_function_has_one_value_at_its_own_value(rt: HostRuntime) -> Result<(), Fail> {
+    let alloc = rt.alloc();
+    let lits = fixed_point(alloc).map_err(|_| "no literals")?;
+    let before = lits.as_slice();
+    let closure = close(alloc, &before[..2]).map_err(|_| "no closure")?;
+    assert_eq!(rt; closure.are_equal(&Term::Sym(0), &Term::Sym(2)), true);
+    assert_eq!(rt; closure.are_equal(&Term::Sym(0), &Term::Lit(0)), false);
+    assert_eq!(rt; closure.classes().len(), 2);
+    assert_eq!(rt; closure.clash(), None);
+    Ok(())
+}
+
+#[test]
+fn the_first_clash_is_at_the_literal_that_makes_it(rt: HostRuntime) -> Result<(), Fail> {
+    let alloc = rt.alloc();
+    let lits = fixed_point(alloc).map_err(|_| "no literals")?;
+    let closure = close(alloc, lits.as_slice()).map_err(|_| "no closure")?;
+    assert_eq!(rt; closure.clash(), Some(2));
+    let own = [same(0, 1), same(1, 2), apart(0, 2), same(3, 4)];
+    let place = first_clash_in(alloc, &own).map_err(|_| "no closure")?;
+    assert_eq!(rt; place, Some(2));
+    let first = [apart(5, 5), same(0, 1)];
+    let place = first_clash_in(alloc, &first).map_err(|_| "no closure")?;
+    assert_eq!(rt; place, Some(0));
+    Ok(())
+}
+
+#[test]
+fn a_later_equality_makes_a_clash_through_two_applications(rt: HostRuntime) -> Result<(), Fail> {
+    let alloc = rt.alloc();
+    let lits = deep(alloc).map_err(|_| "no literals")?;
+    let closure = close(alloc, lits.as_slice()).map_err(|_| "no closure")?;
+    assert_eq!(rt; closure.are_equal(&Term::Sym(2), &Term::Sym(5)), true);
+    assert_eq!(rt; closure.are_equal(&Term::Sym(3), &Term::Sym(6)), true);
+    assert_eq!(rt; closure.are_equal(&Term::Sym(0), &Term::Sym(3)), false);
+    assert_eq!(rt; closure.clash(), Some(3));
+    Ok(())
+}
+
+#[test]
+fn different_reference_numbers_clash(rt: HostRuntime) -> Result<(), Fail> {
+    let alloc = rt.alloc();
+    let numbers = [Literal::Same(Term::RefLit(1), Term::RefLit(2))];
+    let place = first_clash_in(alloc, &numbers).map_err(|_| "no closure")?;
+    assert_eq!(rt; place, Some(0));
+    let none = [same(0, 1), Literal::Same(Term::Nil, Term::RefLit(1))];
+    let place = first_clash_in(alloc, &none).map_err(|_| "no closure")?;
+    assert_eq!(rt; place, Some(1));
+    let zero = [Literal::Same(Term::Nil, Term::RefLit(0)), same(0, 1)];
+    let place = first_clash_in(alloc, &zero).map_err(|_| "no closure")?;
+    assert_eq!(rt; place, None);
+    Ok(())
+}
+
+#[test]
+fn a_flag_both_ways_clashes(rt: HostRuntime) -> Result<(), Fail> {
+    let alloc = rt.alloc();
+    let both = [
+        Literal::Flag(7, true),
+        Literal::Flag(8, false),
+        Literal::Flag(7, true),
+        Literal::Flag(7, false),
+        Literal::Flag(8, true),
+    ];
+    let place = first_clash_in(alloc, &both).map_err(|_| "no closure")?;
+    assert_eq!(rt; place, Some(3));
+    let other = [Literal::Flag(7, true), Literal::Flag(8, false)];
+    let place = first_clash_in(alloc, &other).map_err(|_| "no closure")?;
+    assert_eq!(rt; place, None);
+    Ok(())
+}
+
+#[test]
+fn literals_that_do_not_clash_have_no_place(rt: HostRuntime) -> Result<(), Fail> {
+    let alloc = rt.alloc();
+    let lits = chain(alloc).map_err(|_| "no literals")?;
+    let closure = close(alloc, lits.as_slice()).map_err(|_| "no closure")?;
+    assert_eq!(rt; closure.clash(), None);
+    assert_eq!(rt; closure.classes().len(), 3);
+    let place = first_clash_in(alloc, &[]).map_err(|_| "no closure")?;
+    assert_eq!(rt; place, None);
     Ok(())
 }
