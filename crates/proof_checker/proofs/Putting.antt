@@ -30,7 +30,7 @@ module _ (from to : Term) where
   step_is (Term-F.RefLit n) = refl
   step_is Term-F.Nil = refl
 
-  put-roll : (x : Term-F Term) → put from to (roll-Term x) ≡ put_or x (roll-Term (map-Term Term Term (put from to) x))
+  pub put-roll : (x : Term-F Term) → put from to (roll-Term x) ≡ put_or x (roll-Term (map-Term Term Term (put from to) x))
   put-roll x = para-roll-Term Term (put_step from to) x ∙ step_is x
 
 module _ (m : Valued) (from to : Term) (equal : meaning_at m from ≡ meaning_at m to) where
