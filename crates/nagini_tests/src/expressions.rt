@@ -1,8 +1,8 @@
 // The trees of expressions, from the tokens of their texts.
+use expr_parser::expr::expression;
+use expr_parser::fault::Refused;
 use py_base::Place;
 use py_lexer::lex;
-use py_parser::expr::expression;
-use py_parser::fault::Refused;
 use raw_syntax::{Arithmetic, RawExpr, RawExprForm};
 use std::alloc::{AllocError, Global};
 use std::test::Fail;

@@ -8,8 +8,20 @@ mod expressions;
 #[cfg(test)]
 mod fixtures;
 #[cfg(test)]
+mod limits;
+#[cfg(test)]
+mod modules;
+#[cfg(test)]
+mod near_misses;
+#[cfg(test)]
 mod outside;
+#[cfg(test)]
+mod readings;
 #[cfg(test)]
 mod runs;
 #[cfg(test)]
 mod spellings;
+#[cfg(test)]
+mod statements;
+#[cfg(test)]
+mod trees;
