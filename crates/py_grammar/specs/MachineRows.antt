@@ -53,7 +53,6 @@ row_fixed_stop r k x S V f = stopped r k (fixed x) S V (rw f refl)
 pub short_fixed : (x : Fixed) (S : List Sym) (V : List Value) → run [] (fixed x ∷ S) V ≡ short
 short_fixed x S V = ended (fixed x) S V refl
 
-
 -- names
 pub row_name : (r : List Token) (k : Token) (S : List Sym) (V : List Value) (n : List ℕ) → k.form ≡ forms.Name n → run (k ∷ r) (want_name ∷ S) V ≡ run r S (vname k.place n ∷ V)
 row_name r k S V n f = taken r k want_name S V [] (vname k.place n ∷ []) (rw f refl)
