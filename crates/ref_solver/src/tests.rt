@@ -124,12 +124,27 @@ fn deep(alloc: Global) -> Result<Items<Literal>, OutOfMemory> {
     Ok(lits)
 }
 
+// The closure of a list of a length that a test has.
+fn closed(alloc: Global, lits: &[Literal]) -> Result<Closure, OutOfMemory> {
+    if 1_000 < lits.len() {
+        return Err(OutOfMemory);
+    }
+    close(alloc, lits)
+}
+
+// The first so many literals, or all where there are fewer.
+fn front(lits: &[Literal], count: usize) -> &[Literal] {
+    if count < lits.len() {
+        return &lits[..count];
+    }
+    lits
+}
+
 #[test]
 fn a_function_has_one_value_at_its_own_value(rt: HostRuntime) -> Result<(), Fail> {
     let alloc = rt.alloc();
     let lits = fixed_point(alloc).map_err(|_| "no literals")?;
-    let before = lits.as_slice();
-    let closure = close(alloc, &before[..2]).map_err(|_| "no closure")?;
+    let closure = closed(alloc, front(lits.as_slice(), 2)).map_err(|_| "no closure")?;
     assert_eq!(rt; closure.are_equal(&Term::Sym(0), &Term::Sym(2)), true);
     assert_eq!(rt; closure.are_equal(&Term::Sym(0), &Term::Lit(0)), false);
     assert_eq!(rt; closure.classes().len(), 2);
@@ -141,7 +156,7 @@ fn a_function_has_one_value_at_its_own_value(rt: HostRuntime) -> Result<(), Fail
 fn the_first_clash_is_at_the_literal_that_makes_it(rt: HostRuntime) -> Result<(), Fail> {
     let alloc = rt.alloc();
     let lits = fixed_point(alloc).map_err(|_| "no literals")?;
-    let closure = close(alloc, lits.as_slice()).map_err(|_| "no closure")?;
+    let closure = closed(alloc, lits.as_slice()).map_err(|_| "no closure")?;
     assert_eq!(rt; closure.clash(), Some(2));
     let own = [same(0, 1), same(1, 2), apart(0, 2), same(3, 4)];
     let place = first_clash_in(alloc, &own).map_err(|_| "no closure")?;
@@ -156,7 +171,7 @@ fn the_first_clash_is_at_the_literal_that_makes_it(rt: HostRuntime) -> Result<()
 fn a_later_equality_makes_a_clash_through_two_applications(rt: HostRuntime) -> Result<(), Fail> {
     let alloc = rt.alloc();
     let lits = deep(alloc).map_err(|_| "no literals")?;
-    let closure = close(alloc, lits.as_slice()).map_err(|_| "no closure")?;
+    let closure = closed(alloc, lits.as_slice()).map_err(|_| "no closure")?;
     assert_eq!(rt; closure.are_equal(&Term::Sym(2), &Term::Sym(5)), true);
     assert_eq!(rt; closure.are_equal(&Term::Sym(3), &Term::Sym(6)), true);
     assert_eq!(rt; closure.are_equal(&Term::Sym(0), &Term::Sym(3)), false);
@@ -201,7 +216,7 @@ fn a_flag_both_ways_clashes(rt: HostRuntime) -> Result<(), Fail> {
 fn literals_that_do_not_clash_have_no_place(rt: HostRuntime) -> Result<(), Fail> {
     let alloc = rt.alloc();
     let lits = chain(alloc).map_err(|_| "no literals")?;
-    let closure = close(alloc, lits.as_slice()).map_err(|_| "no closure")?;
+    let closure = closed(alloc, lits.as_slice()).map_err(|_| "no closure")?;
     assert_eq!(rt; closure.clash(), None);
     assert_eq!(rt; closure.classes().len(), 3);
     let place = first_clash_in(alloc, &[]).map_err(|_| "no closure")?;
