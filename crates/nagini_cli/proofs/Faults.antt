@@ -13,12 +13,10 @@ use Rattle.py_syntax.specs.declared.Module.{Module}
 use Rattle.py_syntax.specs.Findings.{Finding, IsBefore}
 use Rattle.py_syntax.specs.SmallForms.{IsSmallModule}
 use Rattle.py_syntax.specs.SmallLocal.{Fault, local, IsLocalFault, HasNoLocalFault}
-use Rattle.py_front.specs.TextLines.{lines_of}
-use Rattle.py_front.specs.SmallText.{SpellsFrom, Spells}
+use Rattle.py_front.specs.Spelled.{IsMainAlone}
 use Rattle.nagini_cli.specs.SmallRun.{first_false, first_false_of, false_assert_text}
 use Rattle.nagini_cli.specs.Texts.{fault_line, not_proved_line, accepted_line}
 use Rattle.nagini_cli.specs.Reports.{AreLocalFaults, method_text, finding_line, report_text}
-use Rattle.nagini_cli.proofs.SmallShapes.{shape_is_small}
 use Rattle.nagini_cli.proofs.LocalRuns.{ends_at, local_is}
 
 -- a false assert of `main`
@@ -91,10 +89,8 @@ one_of m small p is = record {
 }
 
 -- a local fault is the whole report
-pub first_fault : (bytes : List ℕ) (m : Module) (f : Finding) → Spells bytes m → IsLocalFault m f → AreLocalFaults m (finding_at f.place ∷ [])
-first_fault bytes m f spelled fault =
-    let small : IsSmallModule m = shape_is_small bytes m spelled in
-    one_of m small f.place (each_fault m small f fault).0
+pub first_fault : (m : Module) (f : Finding) → IsSmallModule m → IsLocalFault m f → AreLocalFaults m (finding_at f.place ∷ [])
+first_fault m f small fault = one_of m small f.place (each_fault m small f fault).0
 
 not_before_itself : (f : Finding) → IsBefore f f → ⊥
 not_before_itself f (inl (inl h)) = omega arith
@@ -116,20 +112,18 @@ first_some m small f fs are =
         let other : g ≡ finding_at f.place = the_finding m small f.place first g (All-head (IsLocalFault m) g gs faults) in
         absurd (not_before_itself f (subst (λ (x : Finding). IsBefore f x) (other ∙ sym is) (All-head (IsBefore f) g gs before)))
 
--- the one function of a spelled module is `main`
+-- the one function is `main`
 record IsNamed (m : Module) : Type 0 where
   one : length m.methods ≡ 1
   name : method_text m 0 ≡ codes "main"
 
-named_from : (n : ℕ) (lines : List (List ℕ)) (m : Module) → SpellsFrom n lines m → IsNamed m
-named_from n [] m spelled = absurd spelled
-named_from n (line ∷ lines) m (inl (skipped, spelled)) = named_from (n + 1) lines m spelled
-named_from n (line ∷ lines) m (inr s) = rw s.is (record { one = refl; name = refl })
+named : (m : Module) → IsMainAlone m → IsNamed m
+named m alone = rw alone.is (record { one = refl; name = refl })
 
-pub accepted_text : (bytes : List ℕ) (m : Module) → Spells bytes m → accepted_line (length m.methods) ≡ accepted_line 1
-accepted_text bytes m spelled = ap accepted_line (named_from 1 (lines_of bytes) m spelled).one
+pub accepted_text : (m : Module) → IsMainAlone m → accepted_line (length m.methods) ≡ accepted_line 1
+accepted_text m alone = ap accepted_line (named m alone).one
 
-pub fault_text : (bytes : List ℕ) (m : Module) (p : Place) → Spells bytes m → report_text m (finding_at p ∷ []) ≡ false_assert_text p
-fault_text bytes m p spelled =
+pub fault_text : (m : Module) (p : Place) → IsMainAlone m → report_text m (finding_at p ∷ []) ≡ false_assert_text p
+fault_text m p alone =
     ap (λ line. line ++ not_proved_line 1) (append-nil (finding_line m (finding_at p)))
-    ∙ ap (λ name. fault_line p Assert name ++ not_proved_line 1) (named_from 1 (lines_of bytes) m spelled).name
+    ∙ ap (λ name. fault_line p Assert name ++ not_proved_line 1) (named m alone).name

@@ -1,13 +1,11 @@
 pub mod Reach
 pub mod Written
-pub mod Small
 pub mod Answered
 pub mod Told
 pub mod Replied
 pub mod OneAnswer
 pub mod Parts
 pub mod LocalRuns
-pub mod SmallShapes
 pub mod Faults
 pub mod Verdicts
 pub mod BuiltForms

@@ -1,22 +1,26 @@
 -- What the answer to a run says, where the files are told.
-use Rattle.std.proofs.Common.{◌≡◌, ◌≢◌, ℕ, ◌≤◌, ◌<◌, List, length, Option, None, Some, IfSome, sym, subst, refl, ◌∙◌, ◌⊎◌, inl, inr, arith}
+use Rattle.std.proofs.Common.{◌≡◌, ◌≢◌, ℕ, ◌≤◌, ◌<◌, List, length, Option, None, Some, Ok, Err, IfSome, sym, subst, refl, ◌∙◌, ◌⊎◌, inl, inr, arith}
 use Rattle.std.specs.Prelude.{codes}
 use Rattle.std.specs.Io.KnownBytes.{Appends}
 use Rattle.io_edge.specs.Outside.{Held, held_at}
 use Rattle.py_syntax.specs.declared.Module.{Module}
-use Rattle.py_front.specs.SmallText.{Spells}
+use Rattle.py_front.specs.Answers.{IsFront}
+use Rattle.py_front.specs.declared.FrontFault.{FrontFault}
+use Rattle.py_front.specs.declared.FrontFault.TheVariants as faults
 use Rattle.schedule_runner.specs.declared.schedule.ScheduleLine.{ScheduleLine}
 use Rattle.schedule_runner.specs.declared.ending.RunEnd.{RunEnd}
 use Rattle.schedule_runner.specs.declared.ending.RunEnd.TheVariants as ending
 use Rattle.schedule_runner.specs.ScheduleText.{ReadsAs}
 use Rattle.nagini_cli.specs.Allowed.{RunsFiles, file_fault, schedule_fault, long_file, both_read, AsksToRun}
 use Rattle.nagini_cli.specs.Commands.{Run, command_of}
-use Rattle.nagini_cli.specs.RunAnswers.{RunAnswers, file_too_long, schedule_too_long, without_main, stops, bad_schedule, too_many_steps, runs, IsRunAnswer, status_of, run_of, run_status, run_text}
+use Rattle.nagini_cli.specs.RunAnswers.{RunAnswers, file_too_long, schedule_too_long, refused, bad_schedule, too_many_steps, runs, IsRunAnswer, status_of, run_of, run_status, run_text}
+use Rattle.nagini_cli.specs.Refusals.{refusal_status}
 use Rattle.nagini_cli.specs.RunTold.{ReadsInOrder, RunIsTold}
 use Rattle.nagini_cli.specs.Statuses.{IsQuiet, IsAnswered, IsEnd}
 use Rattle.nagini_cli.specs.Texts.{limit_line, read_fault_line}
 use Rattle.nagini_cli.specs.declared.status.TheConstants.{READ_FAULT, REFUSED, LIMIT, USAGE}
 use Rattle.nagini_cli.specs.declared.check.TheConstants.{FILE_LIMIT}
+use Rattle.nagini_cli.proofs.Answered.{refusal_below}
 
 end_below : (e : RunEnd) → status_of e < 7
 end_below ending.Finished = omega arith
@@ -29,8 +33,10 @@ end_below (ending.TooLarge place) = omega arith
 pub answer_below : (bytes script : List ℕ) (s : ℕ) (x : List ℕ) → RunAnswers bytes script s x → s < 8
 answer_below bytes script s x (file_too_long long a b) = omega (arith, a)
 answer_below bytes script s x (schedule_too_long within long a b) = omega (arith, a)
-answer_below bytes script s x (without_main short skipped a b) = omega (arith, a)
-answer_below bytes script s x (stops short i at a b) = omega (arith, a)
+answer_below bytes script s x (refused short f front a b) = refused_below s (refusal_status f) a (refusal_below f)
+  where
+    refused_below : (s n : ℕ) → s ≡ n → n < 8 → s < 8
+    refused_below s n e h = omega arith
 answer_below bytes script s x (bad_schedule short m n spelled bad a b) = omega (arith, a)
 answer_below bytes script s x (too_many_steps short m all spelled reads many a b) = omega (arith, a)
 answer_below bytes script s x (runs short m all spelled reads few a b) = below s (run_status m all) a (end_below (run_of m all).ends)
@@ -85,8 +91,7 @@ limit_where_long files file schedule bytes s x f long read (both_read other scri
     of_answer : (script : List ℕ) (s : ℕ) (x : List ℕ) → RunAnswers bytes script s x → (s ≡ LIMIT) × (x ≡ limit_line (codes "file"))
     of_answer script s x (file_too_long longer a b) = (a, b)
     of_answer script s x (schedule_too_long within longer a b) = absurd (omega (arith, long, within))
-    of_answer script s x (without_main short skipped a b) = absurd (omega (arith, long, short.module_is))
-    of_answer script s x (stops short i at a b) = absurd (omega (arith, long, short.module_is))
+    of_answer script s x (refused short f front a b) = absurd (omega (arith, long, short.module_is))
     of_answer script s x (bad_schedule short m n spelled bad a b) = absurd (omega (arith, long, short.module_is))
     of_answer script s x (too_many_steps short m all spelled reads many a b) = absurd (omega (arith, long, short.module_is))
     of_answer script s x (runs short m all spelled reads few a b) = absurd (omega (arith, long, short.module_is))
@@ -147,16 +152,22 @@ not_an_end s (inr (inl e)) = (λ f. omega (arith, e, f), omega (arith, e))
 not_an_end s (inr (inr (inl e))) = (λ f. omega (arith, e, f), omega (arith, e))
 not_an_end s (inr (inr (inr e))) = (λ f. omega (arith, e, f), omega (arith, e))
 
+-- no refusal has the status of an end
+refusal_no_end : (f : FrontFault) (s : ℕ) → IsEnd s → s ≡ refusal_status f → ⊥
+refusal_no_end faults.LineTooLong s is a = omega (arith, a, (not_an_end s is).1)
+refusal_no_end faults.TooManyStatements s is a = omega (arith, a, (not_an_end s is).1)
+refusal_no_end faults.TooManyMethods s is a = omega (arith, a, (not_an_end s is).1)
+refusal_no_end f s is a = (not_an_end s is).0 a
+
 pub answered_end : (s : ℕ) → IsEnd s → IsAnswered s
 answered_end s is =
     let below = (not_an_end s is).1 in
     (quiet_of s (inl (omega (arith, below))), λ e. omega (arith, e, below))
 
-played_of : (old new : Option (List ℕ)) (bytes script : List ℕ) (s : ℕ) (x : List ℕ) → IsEnd s → RunAnswers bytes script s x → Appends old new x → (m : Module) × (all : List ScheduleLine) × Spells bytes m × ReadsAs script all × (s ≡ run_status m all) × Appends old new (run_text m all)
+played_of : (old new : Option (List ℕ)) (bytes script : List ℕ) (s : ℕ) (x : List ℕ) → IsEnd s → RunAnswers bytes script s x → Appends old new x → (m : Module) × (all : List ScheduleLine) × IsFront bytes (Ok m) × ReadsAs script all × (s ≡ run_status m all) × Appends old new (run_text m all)
 played_of old new bytes script s x is (file_too_long long a b) written = absurd (omega (arith, a, (not_an_end s is).1))
 played_of old new bytes script s x is (schedule_too_long within long a b) written = absurd (omega (arith, a, (not_an_end s is).1))
-played_of old new bytes script s x is (without_main short skipped a b) written = absurd ((not_an_end s is).0 a)
-played_of old new bytes script s x is (stops short i at a b) written = absurd ((not_an_end s is).0 a)
+played_of old new bytes script s x is (refused short f front a b) written = absurd (refusal_no_end f s is a)
 played_of old new bytes script s x is (bad_schedule short m n spelled bad a b) written = absurd ((not_an_end s is).0 a)
 played_of old new bytes script s x is (too_many_steps short m all spelled reads many a b) written = absurd (omega (arith, a, (not_an_end s is).1))
 played_of old new bytes script s x is (runs short m all spelled reads few a b) written = (m, all, spelled, reads, a, subst (λ (y : List ℕ). Appends old new y) b written)
@@ -164,8 +175,7 @@ played_of old new bytes script s x is (runs short m all spelled reads few a b) w
 pub run_is_told : OneAnswer → (words : List (List ℕ)) (held : Option Held) (file schedule : List ℕ) (status : ℕ) (old new : Option (List ℕ)) → command_of words ≡ Some (Run file schedule) → IsAllowed held file schedule status old new → RunIsTold words held status old new
 run_is_told law words held file schedule status old new is allowed = record {
   told = told;
-  no_main = λ bytes script asks answered short skipped. row bytes script asks answered _ _ (without_main short skipped refl refl);
-  not_built = λ bytes script i asks answered short at. row bytes script asks answered _ _ (stops short i at refl refl);
+  refused = λ bytes script f asks answered short front. row bytes script asks answered _ _ (refused short f front refl refl);
   bad_schedule = λ bytes script m n asks answered short spelled bad. row bytes script asks answered _ _ (bad_schedule short m n spelled bad refl refl);
   too_many_steps = λ bytes script m all asks answered short spelled reads many. row bytes script asks answered _ _ (too_many_steps short m all spelled reads many refl refl);
   plays = λ bytes script m all asks answered short spelled reads few. row bytes script asks answered _ _ (runs short m all spelled reads few refl refl);
@@ -192,8 +202,7 @@ reads_nothing words held status old new other = record {
 pub no_run_is_told : (words : List (List ℕ)) (held : Option Held) (status : ℕ) (old new : Option (List ℕ)) → ((file schedule : List ℕ) → command_of words ≢ Some (Run file schedule)) → RunIsTold words held status old new
 no_run_is_told words held status old new other = record {
   told = λ bytes script asks. absurd (other asks.file asks.schedule asks.command);
-  no_main = λ bytes script asks. absurd (other asks.file asks.schedule asks.command);
-  not_built = λ bytes script i asks. absurd (other asks.file asks.schedule asks.command);
+  refused = λ bytes script f asks. absurd (other asks.file asks.schedule asks.command);
   bad_schedule = λ bytes script m n asks. absurd (other asks.file asks.schedule asks.command);
   too_many_steps = λ bytes script m all asks. absurd (other asks.file asks.schedule asks.command);
   plays = λ bytes script m all asks. absurd (other asks.file asks.schedule asks.command);

@@ -1,7 +1,7 @@
 pub mod SmallRun
-pub mod SmallBody
 pub mod Texts
 pub mod Statuses
+pub mod Refusals
 pub mod Replies
 pub mod Commands
 pub mod Reports

@@ -1,7 +1,7 @@
 -- What stands ready for a run, or is answered in its place.
-use Rattle.std.specs.Prelude.{◌≡◌, ◌≤◌, ℕ, List, Option}
+use Rattle.std.specs.Prelude.{◌≡◌, ◌≤◌, ℕ, List, Option, Ok}
 use Rattle.py_syntax.specs.declared.Module.{Module}
-use Rattle.py_front.specs.SmallText.{Spells}
+use Rattle.py_front.specs.Answers.{IsFront}
 use Rattle.io_edge.specs.Outside.{Held}
 use Rattle.schedule_runner.specs.declared.schedule.ScheduleLine.{ScheduleLine}
 use Rattle.schedule_runner.specs.declared.schedule.TheConstants.{STEP_LIMIT}
@@ -16,7 +16,7 @@ use Rattle.nagini_cli.specs.declared.status.TheConstants.{READ_FAULT}
 
 -- the bytes give this module and this schedule
 pub record Give (bytes script : List ℕ) (m : Module) (all : List ScheduleLine) : Type 0 where
-  pub small : Spells bytes m
+  pub small : IsFront bytes (Ok m)
   pub reads : ReadsAs script all
   pub few : steps_of all ≤ STEP_LIMIT
 

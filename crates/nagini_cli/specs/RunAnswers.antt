@@ -1,8 +1,8 @@
 -- What `run` may answer to the bytes of a module and of a schedule: a status, and a text before it.
-use Rattle.std.specs.Prelude.{◌≡◌, ◌+◌, ◌≤◌, ◌<◌, ◌++◌, ℕ, List, [], length, codes}
+use Rattle.std.specs.Prelude.{◌≡◌, ◌≤◌, ◌<◌, ◌++◌, ℕ, List, [], length, Ok, Err, codes}
 use Rattle.py_syntax.specs.declared.Module.{Module}
-use Rattle.py_front.specs.TextLines.{lines_of, AreSkipped}
-use Rattle.py_front.specs.SmallText.{Spells, StopsAt, line_start, end_of}
+use Rattle.py_front.specs.Answers.{IsFront}
+use Rattle.py_front.specs.declared.FrontFault.{FrontFault}
 use Rattle.machine_step.specs.Bits.{has_128_bits}
 use Rattle.schedule_runner.specs.declared.schedule.ScheduleLine.{ScheduleLine}
 use Rattle.schedule_runner.specs.declared.schedule.TheConstants.{STEP_LIMIT}
@@ -11,7 +11,8 @@ use Rattle.schedule_runner.specs.declared.ending.RunEnd.TheVariants as ending
 use Rattle.schedule_runner.specs.ScheduleText.{ReadsAs, IsFirstBad, steps_of}
 use Rattle.schedule_runner.specs.Output as output
 use Rattle.schedule_runner.specs.Output.{Outcome, output_of}
-use Rattle.nagini_cli.specs.Texts.{limit_line, refusal_line, bad_schedule_line, stopped_line, stuck_line, spent_line, too_large_line}
+use Rattle.nagini_cli.specs.Refusals.{refusal_status, refusal_text}
+use Rattle.nagini_cli.specs.Texts.{limit_line, bad_schedule_line, stopped_line, stuck_line, spent_line, too_large_line}
 use Rattle.nagini_cli.specs.declared.status.TheConstants.{FINISHED, REFUSED, STOPPED, SPENT, TOO_LARGE, LIMIT}
 use Rattle.nagini_cli.specs.declared.check.TheConstants.{FILE_LIMIT}
 
@@ -51,11 +52,10 @@ pub record AreShort (bytes script : List ℕ) : Type 0 where
 pub data RunAnswers (bytes script : List ℕ) (status : ℕ) (text : List ℕ) : Type 0 where
   file_too_long : FILE_LIMIT < length bytes → status ≡ LIMIT → text ≡ limit_line (codes "file") → RunAnswers bytes script status text
   schedule_too_long : length bytes ≤ FILE_LIMIT → FILE_LIMIT < length script → status ≡ LIMIT → text ≡ limit_line (codes "file") → RunAnswers bytes script status text
-  without_main : AreShort bytes script → AreSkipped (lines_of bytes) → status ≡ REFUSED → text ≡ refusal_line (codes "NoMain") (end_of bytes) → RunAnswers bytes script status text
-  stops : AreShort bytes script → (i : ℕ) → StopsAt bytes i → status ≡ REFUSED → text ≡ refusal_line (codes "NotBuilt") (line_start (1 + i)) → RunAnswers bytes script status text
-  bad_schedule : AreShort bytes script → (m : Module) (n : ℕ) → Spells bytes m → IsFirstBad script n → status ≡ REFUSED → text ≡ bad_schedule_line n → RunAnswers bytes script status text
-  too_many_steps : AreShort bytes script → (m : Module) (all : List ScheduleLine) → Spells bytes m → ReadsAs script all → STEP_LIMIT < steps_of all → status ≡ LIMIT → text ≡ limit_line (codes "schedule") → RunAnswers bytes script status text
-  runs : AreShort bytes script → (m : Module) (all : List ScheduleLine) → Spells bytes m → ReadsAs script all → steps_of all ≤ STEP_LIMIT → status ≡ run_status m all → text ≡ run_text m all → RunAnswers bytes script status text
+  refused : AreShort bytes script → (f : FrontFault) → IsFront bytes (Err f) → status ≡ refusal_status f → text ≡ refusal_text f → RunAnswers bytes script status text
+  bad_schedule : AreShort bytes script → (m : Module) (n : ℕ) → IsFront bytes (Ok m) → IsFirstBad script n → status ≡ REFUSED → text ≡ bad_schedule_line n → RunAnswers bytes script status text
+  too_many_steps : AreShort bytes script → (m : Module) (all : List ScheduleLine) → IsFront bytes (Ok m) → ReadsAs script all → STEP_LIMIT < steps_of all → status ≡ LIMIT → text ≡ limit_line (codes "schedule") → RunAnswers bytes script status text
+  runs : AreShort bytes script → (m : Module) (all : List ScheduleLine) → IsFront bytes (Ok m) → ReadsAs script all → steps_of all ≤ STEP_LIMIT → status ≡ run_status m all → text ≡ run_text m all → RunAnswers bytes script status text
 
 -- the one answer that there is to the bytes of both
 pub record IsRunAnswer (bytes script : List ℕ) (status : ℕ) (text : List ℕ) : Type 0 where

@@ -1,16 +1,19 @@
 // The command `check FILE`.
-ghost use Rattle.std.specs.Prelude.{◌≡◌, ◌≢◌, ◌≤◌, ℕ, List, false, IfOk, Some, None, IfSome, codes, length};
+ghost use Rattle.std.specs.Prelude.{◌≡◌, ◌≢◌, ◌≤◌, ℕ, List, false, IfOk, IsErr, Some, None, IfSome, codes, length};
 ghost use Rattle.io_edge.specs.Outside.{held_at, Rose};
 ghost use Rattle.py_base.specs.declared.Place.{Place};
 ghost use Rattle.py_syntax.specs.declared.Module.{Module};
-ghost use Rattle.nagini_cli.specs.SmallBody.{IsSmallModule};
+ghost use Rattle.py_front.specs.declared.FrontFault.TheVariants as faults;
+ghost use Rattle.py_front.specs.SmallBody.{IsSmallModule};
 ghost use Rattle.nagini_cli.specs.SmallRun as small_run;
 ghost use Rattle.nagini_cli.specs.Allowed.{ChecksFile};
 ghost use Rattle.nagini_cli.specs.Answers.{IsAnswer};
 ghost use Rattle.nagini_cli.specs.SmallRun.{IsVerdict, false_assert_text};
+ghost use Rattle.nagini_cli.specs.Refusals.{refusal_status, refusal_text};
 ghost use Rattle.nagini_cli.specs.Replies.{Says, text_of};
 ghost use Rattle.nagini_cli.specs.Texts as texts;
 
+use crate::laws::a_file_has_one_answer;
 use crate::reply::Reply;
 use crate::small_run::first_false;
 use crate::status::{ACCEPTED, LIMIT, NOT_PROVED, READ_FAULT, REFUSED};
@@ -19,7 +22,7 @@ use crate::texts::{
 };
 use io_edge::{FileAnswer, Files};
 use py_base::{Kind, OutOfMemory, Place};
-use py_front::{FrontFault, front};
+use py_front::{FrontFault, a_spelled_module_is_small, front};
 use py_syntax::Module;
 use std::alloc::Global;
 
@@ -57,7 +60,14 @@ pub fn check<F: Files>(alloc: Global, name: &str, files: &mut F) -> Result<Reply
 pub fn too_long(alloc: Global) -> Result<Reply, OutOfMemory>
     ensures { IfOk result (λ r. Says r LIMIT (texts.limit_line (codes "file"))) }
 {
-    Ok(Reply::one(alloc, LIMIT, limit_line(alloc, "file")?)?)
+    limit(alloc, "file")
+}
+
+/// The reply where a limit of this name is passed.
+pub fn limit(alloc: Global, name: &str) -> Result<Reply, OutOfMemory>
+    ensures { IfOk result (λ r. Says r LIMIT (texts.limit_line name.now)) }
+{
+    Ok(Reply::one(alloc, LIMIT, limit_line(alloc, name)?)?)
 }
 
 /// The reply where the read of a file failed.
@@ -72,16 +82,41 @@ fn answer(alloc: Global, bytes: &[u8]) -> Result<Reply, OutOfMemory>
     requires { length bytes.now ≤ FILE_LIMIT }
     ensures { IfOk result (λ r. IsAnswer bytes.now r.status (text_of r)) }
 {
+    a_file_has_one_answer();
+    a_spelled_module_is_small();
     match front(alloc, bytes) {
         Ok(module) => verdict(alloc, &module),
-        Err(FrontFault::NoMain(place)) => refuse(alloc, "NoMain", place),
-        Err(FrontFault::NotBuilt(place)) => refuse(alloc, "NotBuilt", place),
-        Err(FrontFault::OutOfMemory) => Err(OutOfMemory),
+        Err(fault) => refuse(alloc, fault),
     }
 }
 
-/// The reply where a text is refused at a place.
-pub fn refuse(alloc: Global, name: &str, place: Place) -> Result<Reply, OutOfMemory>
+/// The reply where the front gives no module.
+pub fn refuse(alloc: Global, fault: FrontFault) -> Result<Reply, OutOfMemory>
+    ensures told { IfOk result (λ r. Says r (refusal_status fault) (refusal_text fault)) }
+    ensures no_memory { fault ≡ faults.OutOfMemory → IsErr result }
+{
+    match fault {
+        FrontFault::BadUtf8(place) => refuse_at(alloc, "BadUtf8", place),
+        FrontFault::BadCharacter(place) => refuse_at(alloc, "BadCharacter", place),
+        FrontFault::TabInIndent(place) => refuse_at(alloc, "TabInIndent", place),
+        FrontFault::BadDedent(place) => refuse_at(alloc, "BadDedent", place),
+        FrontFault::OpenString(place) => refuse_at(alloc, "OpenString", place),
+        FrontFault::LiteralTooLarge(place) => refuse_at(alloc, "LiteralTooLarge", place),
+        FrontFault::NameNotNfkc(place) => refuse_at(alloc, "NameNotNfkc", place),
+        FrontFault::NameTooLong(place) => refuse_at(alloc, "NameTooLong", place),
+        FrontFault::Syntax(place) => refuse_at(alloc, "Syntax", place),
+        FrontFault::TooDeep(place) => refuse_at(alloc, "TooDeep", place),
+        FrontFault::LineTooLong => limit(alloc, "line"),
+        FrontFault::TooManyStatements => limit(alloc, "statements"),
+        FrontFault::TooManyMethods => limit(alloc, "methods"),
+        FrontFault::NoMain(place) => refuse_at(alloc, "NoMain", place),
+        FrontFault::NotBuilt(place) => refuse_at(alloc, "NotBuilt", place),
+        FrontFault::OutOfMemory => Err(OutOfMemory),
+    }
+}
+
+// The reply where a text is refused at a place.
+fn refuse_at(alloc: Global, name: &str, place: Place) -> Result<Reply, OutOfMemory>
     ensures { IfOk result (λ r. Says r REFUSED (texts.refusal_line name.now place)) }
 {
     Ok(Reply::one(alloc, REFUSED, refusal_line(alloc, name, place)?)?)

@@ -1,5 +1,5 @@
 // The top call: words to a command, and what it answers.
-ghost use Rattle.std.specs.Prelude.{◌≡◌, ◌≢◌, ◌≤◌, ◌<◌, ◌+◌, ◌⊎◌, ◌↔◌, ℕ, List, ◌∷◌, false, map, length, string_bytes, codes, IfOk, Some, None, option_copied};
+ghost use Rattle.std.specs.Prelude.{◌≡◌, ◌≢◌, ◌≤◌, ◌<◌, ◌⊎◌, ◌↔◌, ℕ, List, ◌∷◌, false, map, length, string_bytes, IfOk, Some, None, Ok, Err};
 ghost use Rattle.std.specs.Option.{option_map};
 ghost use Rattle.std.specs.Io.KnownBytes.{Appends};
 ghost use Rattle.io_edge.specs.Outside.{Held, held_at, Rose, AppendsPart};
@@ -7,12 +7,13 @@ ghost use Rattle.machine_model.specs.Safe.{Safe};
 ghost use Rattle.py_syntax.specs.declared.Module.{Module};
 ghost use Rattle.py_syntax.specs.Findings.{Finding};
 ghost use Rattle.py_syntax.specs.SmallLocal.{IsLocalFault, HasNoLocalFault};
-ghost use Rattle.py_front.specs.TextLines.{lines_of, AreSkipped};
-ghost use Rattle.py_front.specs.SmallText.{Spells, StopsAt, line_start, end_of};
+ghost use Rattle.py_front.specs.Answers.{IsFront};
+ghost use Rattle.py_front.specs.declared.FrontFault.{FrontFault};
 ghost use Rattle.nagini_cli.specs.Allowed.{Allowed, AsksFor};
 ghost use Rattle.nagini_cli.specs.Answers.{IsAnswer};
 ghost use Rattle.nagini_cli.specs.Commands as commands;
 ghost use Rattle.nagini_cli.specs.Commands.{Check, Names, command_of};
+ghost use Rattle.nagini_cli.specs.Refusals.{refusal_status, refusal_text};
 ghost use Rattle.nagini_cli.specs.Replies.{Says};
 ghost use Rattle.nagini_cli.specs.Reports.{AreLocalFaults, report_text};
 ghost use Rattle.nagini_cli.specs.RunTold.{ReadsInOrder, RunIsTold};
@@ -29,6 +30,7 @@ use crate::words::{Command, read_command};
 use io_edge::{Files, Sink};
 use perm_sound::no_local_fault_is_safe;
 use py_base::OutOfMemory;
+use py_front::a_spelled_module_is_small;
 use std::alloc::Global;
 
 /// Does what the words ask for, and answers the status. Each line of output is one write. Want of
@@ -76,42 +78,37 @@ pub fn nagini<F: Files, O: Sink>(alloc: Global, words: &[String], files: &mut F,
     // What each status says of the bytes, and when it comes.
     ensures limit { (bytes : List ℕ) →
         AsksFor (map string_bytes words.now) (F.held files.old) bytes →
-        IsAnswered result → (result ≡ LIMIT) ↔ (FILE_LIMIT < length bytes) }
-    ensures refused { (bytes : List ℕ) →
+        IsAnswered result → (result ≡ LIMIT) ↔ ((FILE_LIMIT < length bytes)
+        ⊎ ((f : FrontFault) × IsFront bytes (Err f) × (refusal_status f ≡ LIMIT))) }
+    ensures only_refused { (bytes : List ℕ) →
         AsksFor (map string_bytes words.now) (F.held files.old) bytes →
-        result ≡ REFUSED → AreSkipped (lines_of bytes) ⊎ ((i : ℕ) × StopsAt bytes i) }
-    ensures no_main { (bytes : List ℕ) →
+        result ≡ REFUSED → (f : FrontFault)
+        × IsFront bytes (Err f) × (refusal_status f ≡ REFUSED) }
+    ensures refused { (bytes : List ℕ) (f : FrontFault) →
         AsksFor (map string_bytes words.now) (F.held files.old) bytes →
-        IsAnswered result → length bytes ≤ FILE_LIMIT → AreSkipped (lines_of bytes) →
-        (result ≡ REFUSED)
-        × Appends (O.written out.old) (O.written out.new)
-        (texts.refusal_line (codes "NoMain") (end_of bytes)) }
-    ensures not_built { (bytes : List ℕ) (i : ℕ) →
-        AsksFor (map string_bytes words.now) (F.held files.old) bytes →
-        IsAnswered result → length bytes ≤ FILE_LIMIT → StopsAt bytes i →
-        (result ≡ REFUSED)
-        × Appends (O.written out.old) (O.written out.new)
-        (texts.refusal_line (codes "NotBuilt") (line_start (1 + i))) }
+        IsAnswered result → length bytes ≤ FILE_LIMIT → IsFront bytes (Err f) →
+        (result ≡ refusal_status f)
+        × Appends (O.written out.old) (O.written out.new) (refusal_text f) }
     // An accepted file's module has no local fault, and each of its runs is safe. A report has exactly
     // the local faults, in order.
     ensures accepted { (bytes : List ℕ) →
         AsksFor (map string_bytes words.now) (F.held files.old) bytes →
         result ≡ ACCEPTED → (m : Module)
-        × Spells bytes m × HasNoLocalFault m × ((list : List ℕ) → Safe m list) }
+        × IsFront bytes (Ok m) × HasNoLocalFault m × ((list : List ℕ) → Safe m list) }
     ensures accepts { (bytes : List ℕ) (m : Module) →
         AsksFor (map string_bytes words.now) (F.held files.old) bytes →
-        IsAnswered result → length bytes ≤ FILE_LIMIT → Spells bytes m → HasNoLocalFault m →
+        IsAnswered result → length bytes ≤ FILE_LIMIT → IsFront bytes (Ok m) → HasNoLocalFault m →
         (result ≡ ACCEPTED)
         × Appends (O.written out.old) (O.written out.new)
         (texts.accepted_line (length m.methods)) }
     ensures not_proved { (bytes : List ℕ) →
         AsksFor (map string_bytes words.now) (F.held files.old) bytes →
         result ≡ NOT_PROVED → (m : Module) × (f : Finding) × (faults : List Finding)
-        × Spells bytes m × AreLocalFaults m (f ∷ faults)
+        × IsFront bytes (Ok m) × AreLocalFaults m (f ∷ faults)
         × Appends (O.written out.old) (O.written out.new) (report_text m (f ∷ faults)) }
     ensures reports { (bytes : List ℕ) (m : Module) (f : Finding) →
         AsksFor (map string_bytes words.now) (F.held files.old) bytes →
-        IsAnswered result → length bytes ≤ FILE_LIMIT → Spells bytes m → IsLocalFault m f →
+        IsAnswered result → length bytes ≤ FILE_LIMIT → IsFront bytes (Ok m) → IsLocalFault m f →
         (result ≡ NOT_PROVED)
         × ((faults : List Finding) × AreLocalFaults m faults
         × Appends (O.written out.old) (O.written out.new) (report_text m faults)) }
@@ -135,6 +132,7 @@ pub fn nagini<F: Files, O: Sink>(alloc: Global, words: &[String], files: &mut F,
     match read_command(words) {
         Some(Command::Check(file)) => {
             no_local_fault_is_safe();
+            a_spelled_module_is_small();
             finish(check(alloc, file, files), out)
         }
         Some(Command::Run(file, schedule)) => {

@@ -1,21 +1,22 @@
 // What a run stands on: a module and a schedule, each from its file.
-ghost use Rattle.std.specs.Prelude.{◌≡◌, ◌≤◌, false, ℕ, List, IfOk, Some, codes, length};
+ghost use Rattle.std.specs.Prelude.{◌≡◌, ◌≤◌, false, ℕ, List, IfOk, Some, Ok, codes, length};
 ghost use Rattle.io_edge.specs.Outside.{Rose};
-ghost use Rattle.py_front.specs.SmallText.{Spells};
+ghost use Rattle.py_front.specs.Answers.{IsFront};
 ghost use Rattle.nagini_cli.specs.Allowed.{IsHeldAs};
 ghost use Rattle.nagini_cli.specs.Commands.{Names, Run};
 ghost use Rattle.nagini_cli.specs.Preparing.{ByBytes, ByFiles, IsUnread, TellsFault};
 ghost use Rattle.nagini_cli.specs.Replies.{Says};
 ghost use Rattle.nagini_cli.specs.RunAnswers.{AreShort};
 ghost use Rattle.nagini_cli.specs.Texts as texts;
+ghost use Rattle.nagini_cli.specs.declared.status.TheConstants.{LIMIT};
 
-use crate::check::{FILE_LIMIT, read_fault, refuse, too_long};
+use crate::check::{FILE_LIMIT, limit, read_fault, refuse, too_long};
 use crate::reply::Reply;
-use crate::status::{LIMIT, REFUSED};
-use crate::texts::{bad_schedule_line, limit_line};
+use crate::status::REFUSED;
+use crate::texts::bad_schedule_line;
 use io_edge::{FileAnswer, Files};
 use py_base::OutOfMemory;
-use py_front::{FrontFault, front};
+use py_front::front;
 use py_syntax::Module;
 use schedule_runner::{Schedule, ScheduleFault, read_schedule};
 use std::alloc::Global;
@@ -92,13 +93,7 @@ fn prepare_bytes(alloc: Global, bytes: &[u8], script: &[u8]) -> Result<Prepared,
 {
     match front(alloc, bytes) {
         Ok(module) => prepare_module(alloc, module, script),
-        Err(FrontFault::NoMain(place)) => {
-            Ok(Prepared::Answered(refuse(alloc, "NoMain", place)?))
-        }
-        Err(FrontFault::NotBuilt(place)) => {
-            Ok(Prepared::Answered(refuse(alloc, "NotBuilt", place)?))
-        }
-        Err(FrontFault::OutOfMemory) => Err(OutOfMemory),
+        Err(fault) => Ok(Prepared::Answered(refuse(alloc, fault)?)),
     }
 }
 
@@ -109,7 +104,7 @@ fn prepare_module(
     script: &[u8],
 ) -> Result<Prepared, OutOfMemory>
     ensures whole { IfOk result (λ p. (bytes : List ℕ) → AreShort bytes script.now →
-        Spells bytes small_module → ByBytes bytes script.now p) }
+        IsFront bytes (Ok small_module) → ByBytes bytes script.now p) }
     ensures no_read_fault { IfOk result (λ p. ¬ IsUnread p) }
 {
     match read_schedule(alloc, script) {
@@ -131,5 +126,5 @@ fn refuse_schedule(alloc: Global, line: u32) -> Result<Reply, OutOfMemory>
 fn too_many_steps(alloc: Global) -> Result<Reply, OutOfMemory>
     ensures { IfOk result (λ r. Says r LIMIT (texts.limit_line (codes "schedule"))) }
 {
-    Ok(Reply::one(alloc, LIMIT, limit_line(alloc, "schedule")?)?)
+    limit(alloc, "schedule")
 }

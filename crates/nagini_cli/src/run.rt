@@ -17,6 +17,7 @@ use crate::status::{FINISHED, NO_MEMORY, READ_FAULT, SPENT, STOPPED, TOO_LARGE, 
 use crate::texts::{spent_line, stopped_line, stuck_line, too_large_line};
 use io_edge::{Files, Sink};
 use py_base::OutOfMemory;
+use py_front::a_spelled_module_is_small;
 use py_syntax::Module;
 use schedule_runner::{RunEnd, RunFault, Schedule, run};
 use std::alloc::Global;
@@ -52,6 +53,7 @@ pub fn run_files<F: Files, O: Sink>(
         O.late out.new ≡ false }
     ensures held { F.held files.new ≡ F.held files.old }
 {
+    a_spelled_module_is_small();
     match prepare(alloc, file, schedule, files) {
         Ok(Prepared::Ready(module, schedule)) => play(alloc, &module, &schedule, out),
         Ok(Prepared::Answered(reply)) => finish(Ok(reply), out),

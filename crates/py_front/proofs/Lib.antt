@@ -1,9 +1,8 @@
-pub mod Numbers
-pub mod FirstLine
-pub mod Pieces
 pub mod Positions
-pub mod Found
-pub mod Again
-pub mod Body
-pub mod Ends
-pub mod Faults
+pub mod Answering
+pub mod OneFront
+pub mod Bodies
+pub mod Kept
+pub mod Views
+pub mod SumShapes
+pub mod Shapes

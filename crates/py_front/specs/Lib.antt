@@ -1,5 +1,5 @@
-pub mod TextLines
-pub mod SmallForms
-pub mod SmallText
+pub mod SmallTree
+pub mod SmallModule
 pub mod Answers
-pub mod Reading
+pub mod SmallBody
+pub mod Spelled

@@ -5,9 +5,35 @@ use std::alloc::{AllocError, AllocFailed};
 /// Why a text gives no module. A place is the first that breaks the rule.
 #[derive(Clone, Copy, Debug, PartialEq, Eq)]
 pub enum FrontFault {
-    /// The text has no function `main`.
+    /// A byte belongs to no whole character.
+    BadUtf8(Place),
+    /// A character begins no token, or stands straight behind a number, or a backslash begins no escape.
+    BadCharacter(Place),
+    /// A tab stands before the first token of a line.
+    TabInIndent(Place),
+    /// A shallower line has a width that isn't open.
+    BadDedent(Place),
+    /// A string has no end.
+    OpenString(Place),
+    /// A number is above 2^127 - 1.
+    LiteralTooLarge(Place),
+    /// A name isn't its own normal form.
+    NameNotNfkc(Place),
+    /// A name has more than 255 bytes.
+    NameTooLong(Place),
+    /// No module goes on with the token here.
+    Syntax(Place),
+    /// The token here is nested deeper than 100.
+    TooDeep(Place),
+    /// A logical line has more than 2,000 tokens.
+    LineTooLong,
+    /// The module has more than 20,000 statements.
+    TooManyStatements,
+    /// The module has more than 1,000 functions.
+    TooManyMethods,
+    /// The module has no function `main`.
     NoMain(Place),
-    /// The text has a form that isn't built yet.
+    /// The module has a form that isn't built yet.
     NotBuilt(Place),
     /// There was no memory.
     OutOfMemory,

@@ -1,14 +1,17 @@
-// What the definition of small texts gives each text.
-ghost use Rattle.std.specs.Prelude.{◌≡◌, ◌⊎◌, ℕ, List};
+// Laws of the front.
+ghost use Rattle.std.specs.Prelude.{◌≡◌, ℕ, List, Result};
 ghost use Rattle.py_syntax.specs.declared.Module.{Module};
-ghost use Rattle.py_front.specs.TextLines.{lines_of, AreSkipped};
-ghost use Rattle.py_front.specs.SmallText.{Spells, StopsAt};
+ghost use Rattle.py_front.specs.declared.fault.FrontFault.{FrontFault};
+ghost use Rattle.py_front.specs.Answers.{IsFront};
 
-/// A text is small, or has lines alone that are passed over, or stops to be small at a line: it is
-/// one of these, no two at once, and with one module and one line.
+use py_parser::laws::a_list_of_tokens_has_one_answer;
+use py_tokens::{a_text_has_one_first_fault, a_text_has_one_token_list};
+
+/// A text has one answer.
 pub fn a_text_has_one_answer()
-    ensures one_module { (text : List ℕ) (m n : Module) → Spells text m → Spells text n → m ≡ n }
-    ensures small_or_skipped { (text : List ℕ) (m : Module) → Spells text m → ¬ AreSkipped (lines_of text) }
-    ensures one_line { (text : List ℕ) (i j : ℕ) → StopsAt text i → StopsAt text j → i ≡ j }
-    ensures an_answer { (text : List ℕ) → ((m : Module) × Spells text m) ⊎ (AreSkipped (lines_of text) ⊎ ((i : ℕ) × StopsAt text i)) }
-{}
+    ensures { (text : List ℕ) (a b : Result Module FrontFault) → IsFront text a → IsFront text b → a ≡ b }
+{
+    a_list_of_tokens_has_one_answer();
+    a_text_has_one_first_fault();
+    a_text_has_one_token_list();
+}

@@ -1,19 +1,24 @@
-//! From the bytes of a text to its module. The texts that are read so far are the small ones: the
+//! From the bytes of a text to its module. The modules that are built so far are the small ones: the
 //! function `main` with straight-line statements over whole numbers.
 #![tactic(auto)]
 
-mod cuts;
+mod body;
 mod fault;
-mod forms;
 mod laws;
-mod lines;
+mod lists;
+mod parts;
+mod piece;
 mod reader;
+mod small_laws;
 mod small_module;
+mod statements;
+mod sums;
 mod words;
 
 pub use fault::FrontFault;
 pub use laws::a_text_has_one_answer;
 pub use reader::front;
+pub use small_laws::a_spelled_module_is_small;
 
 #[cfg(test)]
 mod tests;

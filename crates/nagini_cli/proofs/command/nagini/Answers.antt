@@ -2,10 +2,10 @@ use Rattle.std.proofs.Common.{Some, map, string_bytes, sym, refl, ap, ◌∙◌,
 use Rattle.std.proofs.lemmas.Result.{IfOk-weaker}
 use Rattle.nagini_cli.specs.declared.words.Command.{Command as Told}
 use Rattle.nagini_cli.specs.Allowed.{run}
-use Rattle.nagini_cli.specs.Answers.{no_main, not_built, accepted, not_proved}
+use Rattle.nagini_cli.specs.Answers.{refused, accepted, not_proved}
 use Rattle.nagini_cli.specs.Commands.{Check, Run, command_in}
 use Rattle.nagini_cli.proofs.Faults.{first_fault}
-use Rattle.nagini_cli.proofs.Verdicts.{accepted_of, not_proved_of}
+use Rattle.nagini_cli.proofs.Verdicts.{accepted_of, not_proved_of, refused_of, limit_of}
 use Rattle.nagini_cli.proofs.Replied.{whole_of, part_of, told_of, usage_part_of, read_fault_of, row_of, not_run, no_run, not_check, run_part_of, not_usage}
 use Rattle.nagini_cli.proofs.ToldRun.{reads_in_order, run_is_told, reads_nothing, no_run_is_told}
 use Rattle.nagini_cli.proofs.command.nagini.Goals as goal
@@ -23,13 +23,19 @@ returns-in-Some-Check-clause-read_fault g c = λ is.
     let fault = read_fault_of _ _ c.check.result c.in-Some-Check.file.now c.finish.result _ _ c.check.ensures.read_fault (c.finish.ensures.whole (λ e. omega (arith, is, e), λ e. omega (arith, is, e))) is in
     (Check c.in-Some-Check.file.now, c.in-Some-Check.file.now, sym c.in-Some-Check.ensures ∙ ap (λ (t : Told). Some (command_in t)) c.in-Some-Check.field-0-is, refl, fault.0, fault.1, fault.2)
 
-pub returns-in-Some-Check-clause-no_main : goal.returns-in-Some-Check-clause-no_main
-returns-in-Some-Check-clause-no_main g c = λ bytes asks is_answered within skipped.
-    row_of c.check.result _ _ c.in-Some-Check.file.now _ _ _ (sym c.in-Some-Check.ensures ∙ ap (λ (t : Told). Some (command_in t)) c.in-Some-Check.field-0-is) c.check.ensures.told c.finish.ensures.whole bytes _ _ asks is_answered (no_main within skipped refl refl)
+pub returns-in-Some-Check-clause-limit : goal.returns-in-Some-Check-clause-limit
+returns-in-Some-Check-clause-limit g c = λ bytes asks is_answered.
+    let answer = told_of c.check.result _ _ c.in-Some-Check.file.now bytes _ _ _ (sym c.in-Some-Check.ensures ∙ ap (λ (t : Told). Some (command_in t)) c.in-Some-Check.field-0-is) c.check.ensures.told (c.finish.ensures.whole is_answered.0) asks is_answered.1 in
+    limit_of bytes _ _ answer.1
 
-pub returns-in-Some-Check-clause-not_built : goal.returns-in-Some-Check-clause-not_built
-returns-in-Some-Check-clause-not_built g c = λ bytes i asks is_answered within stops.
-    row_of c.check.result _ _ c.in-Some-Check.file.now _ _ _ (sym c.in-Some-Check.ensures ∙ ap (λ (t : Told). Some (command_in t)) c.in-Some-Check.field-0-is) c.check.ensures.told c.finish.ensures.whole bytes _ _ asks is_answered (not_built within i stops refl refl)
+pub returns-in-Some-Check-clause-only_refused : goal.returns-in-Some-Check-clause-only_refused
+returns-in-Some-Check-clause-only_refused g c = λ bytes asks is.
+    let answer = told_of c.check.result _ _ c.in-Some-Check.file.now bytes _ _ _ (sym c.in-Some-Check.ensures ∙ ap (λ (t : Told). Some (command_in t)) c.in-Some-Check.field-0-is) c.check.ensures.told (c.finish.ensures.whole (λ e. omega (arith, is, e), λ e. omega (arith, is, e))) asks (λ e. omega (arith, is, e)) in
+    refused_of bytes _ _ is answer.1.answers
+
+pub returns-in-Some-Check-clause-refused : goal.returns-in-Some-Check-clause-refused
+returns-in-Some-Check-clause-refused g c = λ bytes f asks is_answered within front.
+    row_of c.check.result _ _ c.in-Some-Check.file.now _ _ _ (sym c.in-Some-Check.ensures ∙ ap (λ (t : Told). Some (command_in t)) c.in-Some-Check.field-0-is) c.check.ensures.told c.finish.ensures.whole bytes _ _ asks is_answered (refused within f front refl refl)
 
 pub returns-in-Some-Check-clause-accepts : goal.returns-in-Some-Check-clause-accepts
 returns-in-Some-Check-clause-accepts g c = λ bytes m asks is_answered within spelled none.
@@ -38,7 +44,7 @@ returns-in-Some-Check-clause-accepts g c = λ bytes m asks is_answered within sp
 pub returns-in-Some-Check-clause-accepted : goal.returns-in-Some-Check-clause-accepted
 returns-in-Some-Check-clause-accepted g c = λ bytes asks is.
     let answer = told_of c.check.result _ _ c.in-Some-Check.file.now bytes _ _ _ (sym c.in-Some-Check.ensures ∙ ap (λ (t : Told). Some (command_in t)) c.in-Some-Check.field-0-is) c.check.ensures.told (c.finish.ensures.whole (λ e. omega (arith, is, e), λ e. omega (arith, is, e))) asks (λ e. omega (arith, is, e)) in
-    accepted_of c.no_local_fault_is_safe.ensures bytes _ _ is answer.1.answers
+    accepted_of c.a_spelled_module_is_small.ensures.forms c.no_local_fault_is_safe.ensures bytes _ _ is answer.1.answers
 
 pub returns-in-Some-Check-clause-not_proved : goal.returns-in-Some-Check-clause-not_proved
 returns-in-Some-Check-clause-not_proved g c = λ bytes asks is.
@@ -47,7 +53,7 @@ returns-in-Some-Check-clause-not_proved g c = λ bytes asks is.
 
 pub returns-in-Some-Check-clause-reports : goal.returns-in-Some-Check-clause-reports
 returns-in-Some-Check-clause-reports g c = λ bytes m f asks is_answered within spelled fault.
-    let place = first_fault bytes m f spelled fault in
+    let place = first_fault m f (c.a_spelled_module_is_small.ensures.forms bytes m spelled) fault in
     let row = row_of c.check.result _ _ c.in-Some-Check.file.now _ _ _ (sym c.in-Some-Check.ensures ∙ ap (λ (t : Told). Some (command_in t)) c.in-Some-Check.field-0-is) c.check.ensures.told c.finish.ensures.whole bytes _ _ asks is_answered (not_proved within m _ _ spelled place refl refl) in
     (row.0, (_, place, row.1))
 
@@ -96,14 +102,11 @@ returns-in-Some-Run-clause-told g c = λ bytes asks _. absurd (not_check (map st
 pub returns-in-Some-Run-clause-limit : goal.returns-in-Some-Run-clause-limit
 returns-in-Some-Run-clause-limit g c = λ bytes asks _. absurd (not_check (map string_bytes c.args.words.now) c.in-Some-Run.file.now c.in-Some-Run.schedule.now (sym c.in-Some-Run.ensures ∙ ap (λ (t : Told). Some (command_in t)) c.in-Some-Run.field-0-is) asks.file asks.command)
 
+pub returns-in-Some-Run-clause-only_refused : goal.returns-in-Some-Run-clause-only_refused
+returns-in-Some-Run-clause-only_refused g c = λ bytes asks _. absurd (not_check (map string_bytes c.args.words.now) c.in-Some-Run.file.now c.in-Some-Run.schedule.now (sym c.in-Some-Run.ensures ∙ ap (λ (t : Told). Some (command_in t)) c.in-Some-Run.field-0-is) asks.file asks.command)
+
 pub returns-in-Some-Run-clause-refused : goal.returns-in-Some-Run-clause-refused
-returns-in-Some-Run-clause-refused g c = λ bytes asks _. absurd (not_check (map string_bytes c.args.words.now) c.in-Some-Run.file.now c.in-Some-Run.schedule.now (sym c.in-Some-Run.ensures ∙ ap (λ (t : Told). Some (command_in t)) c.in-Some-Run.field-0-is) asks.file asks.command)
-
-pub returns-in-Some-Run-clause-no_main : goal.returns-in-Some-Run-clause-no_main
-returns-in-Some-Run-clause-no_main g c = λ bytes asks _ _ _. absurd (not_check (map string_bytes c.args.words.now) c.in-Some-Run.file.now c.in-Some-Run.schedule.now (sym c.in-Some-Run.ensures ∙ ap (λ (t : Told). Some (command_in t)) c.in-Some-Run.field-0-is) asks.file asks.command)
-
-pub returns-in-Some-Run-clause-not_built : goal.returns-in-Some-Run-clause-not_built
-returns-in-Some-Run-clause-not_built g c = λ bytes i asks _ _ _. absurd (not_check (map string_bytes c.args.words.now) c.in-Some-Run.file.now c.in-Some-Run.schedule.now (sym c.in-Some-Run.ensures ∙ ap (λ (t : Told). Some (command_in t)) c.in-Some-Run.field-0-is) asks.file asks.command)
+returns-in-Some-Run-clause-refused g c = λ bytes f asks _ _ _. absurd (not_check (map string_bytes c.args.words.now) c.in-Some-Run.file.now c.in-Some-Run.schedule.now (sym c.in-Some-Run.ensures ∙ ap (λ (t : Told). Some (command_in t)) c.in-Some-Run.field-0-is) asks.file asks.command)
 
 pub returns-in-Some-Run-clause-accepted : goal.returns-in-Some-Run-clause-accepted
 returns-in-Some-Run-clause-accepted g c = λ bytes asks _. absurd (not_check (map string_bytes c.args.words.now) c.in-Some-Run.file.now c.in-Some-Run.schedule.now (sym c.in-Some-Run.ensures ∙ ap (λ (t : Told). Some (command_in t)) c.in-Some-Run.field-0-is) asks.file asks.command)

@@ -1,11 +1,19 @@
-use Rattle.std.proofs.Common.{Err, ap, ◌∙◌}
-use Rattle.std.specs.Prelude.{codes}
-use Rattle.nagini_cli.specs.RunAnswers.{stops}
-use Rattle.nagini_cli.specs.Texts.{refusal_line}
+use Rattle.std.proofs.lemmas.Result.{IfOk-weaker}
+use Rattle.nagini_cli.specs.Preparing.{ByBytes}
+use Rattle.nagini_cli.specs.RunAnswers.{AreShort, refused}
+use Rattle.nagini_cli.proofs.Answered.{is_module, is_refused, no_read_fault}
 use Rattle.nagini_cli.proofs.prepare.prepare_bytes.Goals as goal
 
-pub returns-in_ok-refuse-in-Err-NotBuilt-clause-whole : goal.returns-in_ok-refuse-in-Err-NotBuilt-clause-whole
-returns-in_ok-refuse-in-Err-NotBuilt-clause-whole c =
-    let at = c.in-Err-NotBuilt.ensures.stops c.in-Err-NotBuilt.place (ap Err c.in-Err-NotBuilt.field-0-is) in
-    let said = c.in_ok-refuse-in-Err-NotBuilt.ensures in
-    stops c.requires at.0 at.2 said.status_is (said.text_is ∙ ap (refusal_line (codes "NotBuilt")) at.1)
+pub returns-in-Ok-clause-whole : goal.returns-in-Ok-clause-whole
+returns-in-Ok-clause-whole c =
+    IfOk-weaker c.prepare_module.result _ _
+    (λ p by. by c.args.bytes.now c.requires (is_module c.args.bytes.now c.in-Ok.module c.in-Ok.ensures))
+    c.prepare_module.ensures.whole
+
+pub returns-in_ok-refuse-in-Err-clause-whole : goal.returns-in_ok-refuse-in-Err-clause-whole
+returns-in_ok-refuse-in-Err-clause-whole c =
+    let said = c.in_ok-refuse-in-Err.ensures in
+    refused c.requires c.in-Err.fault (is_refused c.args.bytes.now c.in-Err.fault c.in-Err.ensures (λ e. let gone = said.no_memory e in cc)) said.told.status_is said.told.text_is
+
+pub returns-in_ok-refuse-in-Err-clause-no_read_fault : goal.returns-in_ok-refuse-in-Err-clause-no_read_fault
+returns-in_ok-refuse-in-Err-clause-no_read_fault c = λ unread. no_read_fault c.in-Err.fault _ c.in_ok-refuse-in-Err.ensures.told.status_is unread

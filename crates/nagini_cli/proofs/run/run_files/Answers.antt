@@ -10,7 +10,6 @@ use Rattle.nagini_cli.specs.Replies.{text_of}
 use Rattle.nagini_cli.specs.RunAnswers.{run_status, run_text}
 use Rattle.nagini_cli.proofs.BuiltForms.{has_small_forms}
 use Rattle.nagini_cli.proofs.Prepares.{runs_files, promised_with_fault}
-use Rattle.nagini_cli.proofs.SmallShapes.{shape_is_small}
 use Rattle.nagini_cli.proofs.ToldRun.{no_fault_ends}
 use Rattle.nagini_cli.proofs.run.run_files.Goals as goal
 
@@ -19,7 +18,7 @@ play-requires g c =
     let held : Option Held = g.F.Files.held c.args.files.now in
     let m : Module = c.in-Ok-Ready.module in
     let from : GiveFiles held c.args.file.now c.args.schedule.now m c.in-Ok-Ready.schedule.lines = subst (λ (p : Prepared). ByFiles held c.args.file.now c.args.schedule.now p) c.in-Ok-Ready.field-0-is c.in-Ok-Ready.ensures.whole in
-    has_small_forms m (shape_is_small from.bytes m from.give.small)
+    has_small_forms m (c.a_spelled_module_is_small.ensures.forms from.bytes m from.give.small)
 
 pub returns-in-Ok-Ready-clause-whole : goal.returns-in-Ok-Ready-clause-whole
 returns-in-Ok-Ready-clause-whole g c = λ quiet.

@@ -1,6 +1,0 @@
-use Rattle.std.proofs.Common.{◌≡◌, ◌<◌, ◌^◌, take}
-use Rattle.py_front.specs.SmallForms.{number_value}
-use Rattle.py_front.proofs.words.number_value.Given as goal
-
-abbrev pub invariant-loop-b : goal.invariant-loop-b
-invariant-loop-b l = record { value : l.n ≡ number_value (take l.b-index l.bytes); small : l.n < 10 ^ l.b-index }
