@@ -50,12 +50,145 @@ fn other_texts_are_refused_at_their_place(rt: HostRuntime) -> Result<(), Fail> {
     for (text, output) in [
         ("", "refused NoMain 1:1\n"),
         ("# a\n# b\n", "refused NoMain 3:1\n"),
-        ("def main() -> None:\n    x = y\n", "refused NotBuilt 2:1\n"),
-        ("def main() -> None:\n", "refused NotBuilt 2:1\n"),
+        ("import_ = 1\n", "refused Syntax 1:1\n"),
+        ("def main(", "refused Syntax 2:1\n"),
+        ("def main() -> None:\n", "refused Syntax 2:1\n"),
+        (
+            "def main() -> None:\n    \"\"\"doc",
+            "refused OpenString 2:5\n",
+        ),
+        ("def main() -> None:\n\tpass\n", "refused TabInIndent 2:1\n"),
+        (
+            "def main() -> None:\n    if True:\n        pass\n      pass\n",
+            "refused BadDedent 4:7\n",
+        ),
+        (
+            "def main() -> None:\n    x = 007\n",
+            "refused BadCharacter 2:10\n",
+        ),
+        (
+            "def main() -> None:\n    x = 170141183460469231731687303715884105728\n",
+            "refused LiteralTooLarge 2:9\n",
+        ),
     ] {
         assert!(rt;
             gives(rt.alloc(), "check m.py", text.as_bytes(), 2, output)?,
             "{text}"
+        );
+    }
+    Ok(())
+}
+
+// The first form that isn't built, from left to right and from top to bottom.
+#[test]
+fn other_modules_are_refused_at_their_first_form(rt: HostRuntime) -> Result<(), Fail> {
+    for (text, output) in [
+        ("def main() -> None:\n    x = y\n", "refused NotBuilt 2:9\n"),
+        (
+            "def main() -> None:\n    x = 1 + 2 - 3\n",
+            "refused NotBuilt 2:15\n",
+        ),
+        (
+            "def main() -> None:\n    x = 1000000000\n",
+            "refused NotBuilt 2:9\n",
+        ),
+        (
+            "def main() -> None:\n    x = 2 * 3\n",
+            "refused NotBuilt 2:11\n",
+        ),
+        (
+            "def main() -> None:\n    print()\n",
+            "refused NotBuilt 2:5\n",
+        ),
+        (
+            "def main() -> None:\n    print(1, 2)\n",
+            "refused NotBuilt 2:14\n",
+        ),
+        (
+            "def main() -> None:\n    assert 1 == 1 == 1\n",
+            "refused NotBuilt 2:19\n",
+        ),
+        (
+            "def main() -> None:\n    assert 1 < 2\n",
+            "refused NotBuilt 2:5\n",
+        ),
+        (
+            "def main() -> None:\n    return\n",
+            "refused NotBuilt 2:5\n",
+        ),
+        ("def main() -> int:\n    pass\n", "refused NotBuilt 1:15\n"),
+        (
+            "def main(x: int) -> None:\n    pass\n",
+            "refused NotBuilt 1:10\n",
+        ),
+        ("def f() -> None:\n    pass\n", "refused NotBuilt 1:5\n"),
+        ("class A:\n    pass\n", "refused NotBuilt 1:7\n"),
+        (
+            "def main() -> None:\n    pass\ndef main() -> None:\n    pass\n",
+            "refused NotBuilt 3:5\n",
+        ),
+    ] {
+        assert!(rt;
+            gives(rt.alloc(), "check m.py", text.as_bytes(), 2, output)?,
+            "{text}"
+        );
+    }
+    Ok(())
+}
+
+#[test]
+fn small_modules_may_be_spelled_in_any_way(rt: HostRuntime) -> Result<(), Fail> {
+    for text in [
+        "def main() -> None:\n    x = (1 +\n  2)\n",
+        "def main() -> None: pass",
+        "from a.b import *\nfrom c import d, e\ndef main() -> None:\r\n  x=1_0\r\n  assert(x)==10\r\n",
+        "'doc'\ndef main() -> 'None':\n    (größe) = 1 # a\n    print(((größe - 1)))\n",
+    ] {
+        assert!(rt;
+            gives(rt.alloc(), "check m.py", text.as_bytes(), 0, "accepted 1\n")?,
+            "{text}"
+        );
+    }
+    Ok(())
+}
+
+#[test]
+fn ninety_nine_brackets_are_read_and_a_hundred_are_too_deep(rt: HostRuntime) -> Result<(), Fail> {
+    let alloc = rt.alloc();
+    for (count, status, output) in [(99, 0, "accepted 1\n"), (100, 2, "refused TooDeep 2:108\n")] {
+        let mut text = String::from_str(alloc, "def main() -> None:\n    x = ")?;
+        for _ in 0..count {
+            text.push_str("(")?;
+        }
+        text.push_str("1")?;
+        for _ in 0..count {
+            text.push_str(")")?;
+        }
+        text.push_str("\n")?;
+        assert!(rt;
+            gives(alloc, "check m.py", text.as_bytes(), status, output)?,
+            "{output}"
+        );
+    }
+    Ok(())
+}
+
+// `x = 1` and so many times ` + 1` have four tokens with the end of the line, and two more each time.
+#[test]
+fn a_line_of_more_than_two_thousand_tokens_is_a_limit(rt: HostRuntime) -> Result<(), Fail> {
+    let alloc = rt.alloc();
+    for (count, status, output) in [
+        (998, 2, "refused NotBuilt 2:15\n"),
+        (999, 7, "limit line\n"),
+    ] {
+        let mut text = String::from_str(alloc, "def main() -> None:\n    x = 1")?;
+        for _ in 0..count {
+            text.push_str(" + 1")?;
+        }
+        text.push_str("\n")?;
+        assert!(rt;
+            gives(alloc, "check m.py", text.as_bytes(), status, output)?,
+            "{output}"
         );
     }
     Ok(())
