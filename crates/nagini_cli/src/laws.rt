@@ -23,5 +23,6 @@ pub fn a_run_has_one_answer()
         RunAnswers bytes script s x → RunAnswers bytes script t y → (s ≡ t) × (x ≡ y) }
 {
     a_text_has_one_answer();
+    a_spelled_module_is_small();
     a_text_reads_or_has_a_bad_line();
 }

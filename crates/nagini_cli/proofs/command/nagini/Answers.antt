@@ -23,6 +23,10 @@ returns-in-Some-Check-clause-read_fault g c = λ is.
     let fault = read_fault_of _ _ c.check.result c.in-Some-Check.file.now c.finish.result _ _ c.check.ensures.read_fault (c.finish.ensures.whole (λ e. omega (arith, is, e), λ e. omega (arith, is, e))) is in
     (Check c.in-Some-Check.file.now, c.in-Some-Check.file.now, sym c.in-Some-Check.ensures ∙ ap (λ (t : Told). Some (command_in t)) c.in-Some-Check.field-0-is, refl, fault.0, fault.1, fault.2)
 
+pub returns-in-Some-Check-clause-told : goal.returns-in-Some-Check-clause-told
+returns-in-Some-Check-clause-told g c = λ bytes asks is_answered.
+    told_of c.check.result _ _ c.in-Some-Check.file.now bytes _ _ _ (sym c.in-Some-Check.ensures ∙ ap (λ (t : Told). Some (command_in t)) c.in-Some-Check.field-0-is) c.check.ensures.told (c.finish.ensures.whole is_answered.0) asks is_answered.1
+
 pub returns-in-Some-Check-clause-limit : goal.returns-in-Some-Check-clause-limit
 returns-in-Some-Check-clause-limit g c = λ bytes asks is_answered.
     let answer = told_of c.check.result _ _ c.in-Some-Check.file.now bytes _ _ _ (sym c.in-Some-Check.ensures ∙ ap (λ (t : Told). Some (command_in t)) c.in-Some-Check.field-0-is) c.check.ensures.told (c.finish.ensures.whole is_answered.0) asks is_answered.1 in
