@@ -1,6 +1,7 @@
 //! Tables of cases that are found by a key, the table of the operators and the table of the marks.
 #![tactic(auto)]
 
+mod cases;
 mod mark_table;
 mod operator_table;
 mod row;

@@ -3,6 +3,8 @@ use expr_parser::expr::expression;
 use expr_parser::fault::Refused;
 use py_base::Place;
 use py_lexer::lex;
+use py_parser::key::operator_key;
+use py_tokens::Mark;
 use raw_syntax::{Arithmetic, RawExpr, RawExprForm};
 use std::alloc::{AllocError, Global};
 use std::test::Fail;
@@ -169,6 +171,33 @@ fn a_refusal_stands_at_the_first_token_that_goes_on_with_nothing(
             }
             _ => return Err("no refusal".into()),
         }
+    }
+    Ok(())
+}
+
+// The keys of the operators: `+ - * // %` are 1 to 5, `< <= > >=` are 7 to 10, and `==` and `!=` are 11 and 12.
+#[test]
+fn marks_have_the_keys_of_their_operators(rt: HostRuntime) -> Result<(), Fail> {
+    for (mark, key) in [
+        (Mark::Plus, Some(1)),
+        (Mark::Minus, Some(2)),
+        (Mark::Star, Some(3)),
+        (Mark::TwoSlashes, Some(4)),
+        (Mark::Percent, Some(5)),
+        (Mark::Less, Some(7)),
+        (Mark::LessEqual, Some(8)),
+        (Mark::Greater, Some(9)),
+        (Mark::GreaterEqual, Some(10)),
+        (Mark::Equal, Some(11)),
+        (Mark::NotEqual, Some(12)),
+        (Mark::PlusAssign, Some(1)),
+        (Mark::PercentAssign, Some(5)),
+        (Mark::Slash, None),
+        (Mark::Assign, None),
+        (Mark::Arrow, None),
+        (Mark::CloseBracket, None),
+    ] {
+        assert_eq!(rt; operator_key(mark), key, "{mark:?}");
     }
     Ok(())
 }

@@ -1,9 +1,9 @@
 -- How many statements and methods a tree has.
-use Rattle.std.specs.Prelude.{ℕ, suc, ◌+◌, List, map, sum, length}
-use Rattle.raw_syntax.specs.declared.RawStmt.{RawStmt, RawStmt-F, fold-RawStmt}
+use Rattle.std.specs.Prelude.{ℕ, suc, ◌+◌, map, sum, length}
+use Rattle.raw_syntax.specs.declared.RawStmt.{RawStmt, fold-RawStmt}
 use Rattle.raw_syntax.specs.declared.RawStmtForm.{RawStmtForm-F}
-use Rattle.raw_syntax.specs.declared.RawElif.{RawElif, RawElif-F, fold-RawElif}
-use Rattle.raw_syntax.specs.declared.RawHandler.{RawHandler, RawHandler-F, fold-RawHandler}
+use Rattle.raw_syntax.specs.declared.RawElif.{RawElif, fold-RawElif}
+use Rattle.raw_syntax.specs.declared.RawHandler.{RawHandler, fold-RawHandler}
 use Rattle.raw_syntax.specs.declared.RawFunc.{RawFunc}
 use Rattle.raw_syntax.specs.declared.RawItem.{RawItem}
 use Rattle.raw_syntax.specs.declared.RawItem.TheVariants as items

@@ -1,5 +1,6 @@
 pub mod Limits
 pub mod Counts
+pub mod MarkKeys
 pub mod Depths
 pub mod Openings
 pub mod Reading

@@ -1,7 +1,7 @@
 -- The tree of a list of tokens, or why there is none. The limits and the order of refusals are this project's own: a line
 -- that is too long comes before all others, what is no module and what is nested too deep go by place, and the numbers of
 -- statements and of functions come last.
-use Rattle.std.specs.Prelude.{ℕ, ◌<◌, ◌≤◌, List, [], ◌∷◌, ◌++◌, ◌≡◌, Result, Ok, Err}
+use Rattle.std.specs.Prelude.{◌<◌, ◌≤◌, List, [], ◌∷◌, ◌++◌, ◌≡◌, Result, Ok, Err}
 use Rattle.py_base.specs.declared.Place.{Place}
 use Rattle.py_tokens.specs.declared.Token.{Token}
 use Rattle.raw_syntax.specs.declared.Raw.{Raw}

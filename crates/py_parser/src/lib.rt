@@ -9,6 +9,7 @@ pub mod deep;
 pub mod fault;
 pub mod front;
 pub mod function;
+pub mod key;
 pub mod laws;
 pub mod lead;
 pub mod long;
