@@ -1,5 +1,5 @@
 -- What the front says of the bytes of a file, and the answer to them.
-use Rattle.std.proofs.Common.{◌≡◌, ℕ, ◌<◌, ◌≤◌, List, [], ◌∷◌, length, Option, None, Some, Result, Ok, Err, IfOk, IsErr, sym, ap, ◌∙◌, refl, arith}
+use Rattle.std.proofs.Common.{◌≡◌, ℕ, ◌<◌, ◌≤◌, List, [], length, Option, None, Some, Result, Ok, Err, IfOk, IsErr, sym, ◌∙◌, arith}
 use Rattle.py_base.specs.declared.OutOfMemory.{OutOfMemory}
 use Rattle.py_base.specs.declared.Place.{Place}
 use Rattle.py_syntax.specs.declared.Module.{Module}

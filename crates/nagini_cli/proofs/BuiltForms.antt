@@ -1,6 +1,6 @@
 -- A small module has only forms that are built.
 use Rattle.std.proofs.Common.{◌≡◌, ℕ, List, [], ◌∷◌, refl, sym, ap, subst, ◌∙◌}
-use Rattle.std.specs.Prelude.{Bool, true, false, ◌&&◌, All, Option, Some, IfSome, IsTrue, slice_get, length}
+use Rattle.std.specs.Prelude.{Bool, true, ◌&&◌, All, Option, Some, IfSome, IsTrue, slice_get, length}
 use Rattle.std.specs.List.{list_all}
 use Rattle.std.proofs.lemmas.List.Elements.{All-nil, All-cons}
 use Rattle.py_syntax.specs.declared.Expr.{Expr, out-Expr, fold_out-Expr}

@@ -4,6 +4,7 @@ pub mod Answered
 pub mod Told
 pub mod Replied
 pub mod OneAnswer
+pub mod SomeAnswer
 pub mod Parts
 pub mod LocalRuns
 pub mod Faults

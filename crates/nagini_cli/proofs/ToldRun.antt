@@ -1,5 +1,5 @@
 -- What the answer to a run says, where the files are told.
-use Rattle.std.proofs.Common.{◌≡◌, ◌≢◌, ℕ, ◌≤◌, ◌<◌, List, length, Option, None, Some, Ok, Err, IfSome, sym, subst, refl, ◌∙◌, ◌⊎◌, inl, inr, arith}
+use Rattle.std.proofs.Common.{◌≡◌, ◌≢◌, ℕ, ◌≤◌, ◌<◌, List, length, Option, None, Some, Ok, subst, refl, ◌⊎◌, inl, inr, arith}
 use Rattle.std.specs.Prelude.{codes}
 use Rattle.std.specs.Io.KnownBytes.{Appends}
 use Rattle.io_edge.specs.Outside.{Held, held_at}
@@ -18,7 +18,7 @@ use Rattle.nagini_cli.specs.Refusals.{refusal_status}
 use Rattle.nagini_cli.specs.RunTold.{ReadsInOrder, RunIsTold}
 use Rattle.nagini_cli.specs.Statuses.{IsQuiet, IsAnswered, IsEnd}
 use Rattle.nagini_cli.specs.Texts.{limit_line, read_fault_line}
-use Rattle.nagini_cli.specs.declared.status.TheConstants.{READ_FAULT, REFUSED, LIMIT, USAGE}
+use Rattle.nagini_cli.specs.declared.status.TheConstants.{READ_FAULT, REFUSED, LIMIT}
 use Rattle.nagini_cli.specs.declared.check.TheConstants.{FILE_LIMIT}
 use Rattle.nagini_cli.proofs.Answered.{refusal_below}
 

@@ -9,7 +9,6 @@ use Rattle.py_tokens.specs.PlacedText.{text_characters, text_start, after}
 use Rattle.py_tokens.specs.LineLayout.{last_newline, token_at, end_place}
 use Rattle.raw_syntax.specs.declared.Raw.{Raw}
 use Rattle.py_parser.specs.declared.fault.ParseFault.{ParseFault}
-use Rattle.py_parser.specs.declared.fault.ParseFault.TheVariants as parsing
 use Rattle.py_parser.specs.Parsing.{IsAnswer}
 use Rattle.py_parser.specs.Reading.{IsEnded}
 use Rattle.py_syntax.specs.declared.Module.{Module}

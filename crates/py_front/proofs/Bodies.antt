@@ -1,5 +1,5 @@
 -- The statements of a body, one after another.
-use Rattle.std.proofs.Common.{ℕ, ◌<◌, ◌≤◌, ◌≡◌, refl, ap, ◌∙◌, List, [], ◌∷◌, ◌++◌, length, Ok, Err, nat_lt, true, false, if◌then◌else◌, arith}
+use Rattle.std.proofs.Common.{ℕ, ◌≡◌, refl, List, [], ◌∷◌, ◌++◌, length, Ok, Err, nat_lt, true, false}
 use Rattle.py_base.specs.declared.Place.{Place}
 use Rattle.py_syntax.specs.declared.Stmt.{Stmt}
 use Rattle.raw_syntax.specs.declared.RawStmt.{RawStmt}

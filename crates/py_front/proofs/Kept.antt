@@ -4,7 +4,7 @@ use Rattle.py_base.specs.declared.Place.{Place}
 use Rattle.py_syntax.specs.declared.Stmt.{Stmt}
 use Rattle.raw_syntax.specs.declared.RawExpr.{RawExpr}
 use Rattle.raw_syntax.specs.declared.RawStmt.{RawStmt}
-use Rattle.raw_syntax.specs.declared.RawStmtForm.{RawStmtForm, RawStmtForm-F, out-RawStmtForm, the_lemmas}
+use Rattle.raw_syntax.specs.declared.RawStmtForm.{RawStmtForm-F, out-RawStmtForm, the_lemmas}
 use Rattle.raw_syntax.specs.declared.RawStmtForm.TheVariants as states
 use Rattle.py_front.specs.SmallTree.{view}
 use Rattle.py_front.specs.SmallModule.{check_of, print_of, keeping, form_of, stmt_of}

@@ -1,6 +1,7 @@
 pub mod Positions
 pub mod Answering
 pub mod OneFront
+pub mod SomeFront
 pub mod Bodies
 pub mod Kept
 pub mod Views

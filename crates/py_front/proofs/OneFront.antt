@@ -1,5 +1,5 @@
 -- A text has one answer.
-use Rattle.std.proofs.Common.{ℕ, List, ◌≡◌, refl, sym, ap, subst, Result, Ok, Err}
+use Rattle.std.proofs.Common.{ℕ, List, ◌≡◌, ap, subst, Result, Ok, Err}
 use Rattle.py_tokens.specs.declared.Token.{Token}
 use Rattle.py_tokens.specs.declared.LexFault.{LexFault}
 use Rattle.py_tokens.specs.TextTokens.{Tokens, IsFirstFault, HasFault}

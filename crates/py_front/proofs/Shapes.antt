@@ -1,6 +1,6 @@
 -- A module that a text spells has the shape of a small one: each local is read behind its first assignment.
 use Rattle.std.proofs.Common.{◌≡◌, ◌⊎◌, ℕ, suc, ◌+◌, ◌≤◌, ◌<◌, max, List, [], ◌∷◌, ◌++◌, length, Option, Some, None, Result, Ok, Err, refl, sym, ap, subst, ◌∙◌, inl, inr, arith}
-use Rattle.std.specs.Prelude.{Bool, true, false, not, ◌||◌, ◌&&◌, IsTrue, nat_lt, bytes_eq, codes, if◌then◌else◌}
+use Rattle.std.specs.Prelude.{Bool, true, false, nat_lt, bytes_eq, if◌then◌else◌}
 use Rattle.std.specs.List.{All, list_any, position_or_len}
 use Rattle.std.proofs.lemmas.Bool.{ltb-true}
 use Rattle.std.proofs.lemmas.List.{length-replicate, length-append, append_assoc, append-nil}
@@ -15,7 +15,7 @@ use Rattle.raw_syntax.specs.declared.RawItem.{RawItem}
 use Rattle.raw_syntax.specs.declared.RawItem.TheVariants as things
 use Rattle.py_syntax.specs.declared.Ty.TheVariants.{Int}
 use Rattle.py_syntax.specs.declared.Expr.{Expr}
-use Rattle.py_syntax.specs.declared.ExprForm.{ExprForm, ExprForm-F, out-ExprForm}
+use Rattle.py_syntax.specs.declared.ExprForm.{ExprForm, ExprForm-F}
 use Rattle.py_syntax.specs.declared.Instance.{Instance}
 use Rattle.py_syntax.specs.declared.PrintArg.{PrintArg}
 use Rattle.py_syntax.specs.declared.PrintArg.TheVariants.{Value}
@@ -23,10 +23,10 @@ use Rattle.py_syntax.specs.declared.Stmt.{Stmt}
 use Rattle.py_syntax.specs.declared.StmtForm.{StmtForm, StmtForm-F, out-StmtForm, the_lemmas as stmt_lemmas}
 use Rattle.py_syntax.specs.declared.StmtForm.TheVariants.{Pass, Store, Check, Print}
 use Rattle.py_syntax.specs.declared.Module.{Module}
-use Rattle.py_syntax.specs.SmallForms.{IsSum, IsEquationForm, IsEquation, IsSmallStmtForm, assigned_form, assigned_behind, IsSmallBody, IsSmallModule}
+use Rattle.py_syntax.specs.SmallForms.{IsEquationForm, IsSmallStmtForm, assigned_form, assigned_behind, IsSmallBody, IsSmallModule}
 use Rattle.py_front.specs.SmallBody as bounds
-use Rattle.py_front.specs.SmallTree.{is_known, local_number, with_name, is_reserved, Link, Argument, value, named, Shape, name, chain, call, field, plain, View, view, equation_at, ◌>>=◌, sum_of}
-use Rattle.py_front.specs.SmallModule.{statement, Said, store_in, store_of, last_link, is_equal, equation_of, check_of, last_argument, is_print, value_of, arguments_of, print_of, keeping, form_of, stmt_of, body_of, with_count, main_method, main_module, head_fault, main_of, last_item, built, items_module}
+use Rattle.py_front.specs.SmallTree.{local_number, with_name, is_reserved, Link, Argument, value, named, Shape, name, chain, call, field, plain, View, view, equation_at, ◌>>=◌, sum_of}
+use Rattle.py_front.specs.SmallModule.{statement, store_in, last_link, is_equal, equation_of, check_of, last_argument, is_print, arguments_of, print_of, keeping, form_of, stmt_of, body_of, with_count, main_method, main_module, head_fault, main_of, last_item, built, items_module}
 use Rattle.py_front.specs.Spelled.{IsMainAlone}
 use Rattle.py_front.specs.Answers.{IsFront, not_lexed, not_parsed, parsed}
 use Rattle.py_front.specs.declared.piece.Piece.{Piece}

@@ -1,6 +1,6 @@
 -- What a sum of fine pieces is: a small expression, whose numbers are short.
-use Rattle.std.proofs.Common.{◌≡◌, ◌⊎◌, ℕ, ℤ, pos, negsuc, ◌^◌, ◌≤◌, ◌<◌, suc, ◌+◌, List, [], ◌∷◌, ◌++◌, length, Result, Ok, Err, refl, sym, ap, subst, ◌∙◌, inl, inr, arith}
-use Rattle.std.specs.Prelude.{Bool, true, false, not, ◌||◌, IsTrue, nat_le, bytes_eq, if◌then◌else◌}
+use Rattle.std.proofs.Common.{◌≡◌, ◌⊎◌, ℕ, ℤ, pos, negsuc, ◌^◌, ◌≤◌, ◌<◌, suc, ◌+◌, List, [], ◌∷◌, ◌++◌, length, Result, Ok, Err, refl, sym, subst, inl, inr, arith}
+use Rattle.std.specs.Prelude.{Bool, true, false, not, ◌||◌, nat_le, bytes_eq, if◌then◌else◌}
 use Rattle.std.specs.List.{list_any, position_or_len}
 use Rattle.std.proofs.lemmas.Int.{ints}
 use Rattle.std.proofs.lemmas.Bool.{leb-true}
@@ -11,7 +11,7 @@ use Rattle.py_syntax.specs.declared.ExprForm.TheVariants.{Num, Local, Bin}
 use Rattle.py_syntax.specs.declared.Instance.{Instance}
 use Rattle.py_syntax.specs.SmallForms.{IsOperandForm, IsOperand, IsSumForm, IsSum}
 use Rattle.py_front.specs.SmallBody as bounds
-use Rattle.py_front.specs.SmallTree.{is_known, local_number, number_piece, name_piece, number_at, local_at, sum_at, ◌>>=◌, piece_place, operand_of, right_of, sum_of}
+use Rattle.py_front.specs.SmallTree.{is_known, local_number, number_piece, name_piece, sum_at, ◌>>=◌, piece_place, operand_of, right_of, sum_of}
 use Rattle.py_front.specs.declared.piece.Piece.{Piece}
 use Rattle.py_front.specs.declared.piece.Piece.TheVariants as pieces
 

@@ -1,13 +1,13 @@
 -- Each part of an expression, as it is seen, is fine.
-use Rattle.std.proofs.Common.{◌≡◌, ℕ, List, [], ◌∷◌, ◌++◌, length, map, refl, sym, ap, subst, ◌∙◌, inl, inr}
+use Rattle.std.proofs.Common.{◌≡◌, ℕ, List, [], ◌∷◌, length, map, refl, sym, ap, subst, inl, inr}
 use Rattle.py_base.specs.declared.Place.{Place}
-use Rattle.raw_syntax.specs.declared.RawExpr.{RawExpr, RawExpr-F, roll-RawExpr, map-RawExpr, fold-RawExpr, fold-roll-RawExpr, ind-RawExpr}
+use Rattle.raw_syntax.specs.declared.RawExpr.{RawExpr, RawExpr-F, roll-RawExpr, map-RawExpr, fold-roll-RawExpr, ind-RawExpr}
 use Rattle.raw_syntax.specs.declared.RawExprForm.{RawExprForm, RawExprForm-F, roll-RawExprForm, map-RawExprForm, fold-RawExprForm, fold-roll-RawExprForm}
 use Rattle.raw_syntax.specs.declared.RawComparison.{RawComparison, RawComparison-F, roll-RawComparison, map-RawComparison, fold-RawComparison, fold-roll-RawComparison}
 use Rattle.raw_syntax.specs.declared.RawArgument.{RawArgument, RawArgument-F, roll-RawArgument, map-RawArgument, fold-RawArgument, fold-roll-RawArgument}
 use Rattle.raw_syntax.specs.declared.Arithmetic.{Arithmetic}
 use Rattle.raw_syntax.specs.declared.Arithmetic.TheVariants as signs
-use Rattle.py_front.specs.SmallTree.{Link, Argument, value, named, Shape, name, chain, call, field, plain, View, sign_piece, form_view, argument_view, link_view, view}
+use Rattle.py_front.specs.SmallTree.{Link, Argument, value, named, Shape, chain, call, View, sign_piece, form_view, argument_view, link_view, view}
 use Rattle.py_front.specs.declared.piece.Piece.TheVariants as pieces
 use Rattle.py_front.proofs.SumShapes.{FinePiece, Fine, fine_append, number_fine, name_fine}
 

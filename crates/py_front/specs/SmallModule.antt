@@ -5,7 +5,7 @@
 -- comparison at its mark, and every other statement at its first token.
 use Rattle.std.specs.Prelude.{ℕ, ◌+◌, Bool, true, false, ◌&&◌, nat_lt, List, [], ◌∷◌, ◌++◌, length, replicate, Option, Some, None, Result, Ok, Err, if◌then◌else◌, codes, bytes_eq}
 use Rattle.py_base.specs.declared.Place.{Place}
-use Rattle.raw_syntax.specs.declared.RawStmt.{RawStmt, out-RawStmt}
+use Rattle.raw_syntax.specs.declared.RawStmt.{RawStmt}
 use Rattle.raw_syntax.specs.declared.RawStmtForm.{RawStmtForm, RawStmtForm-F, out-RawStmtForm}
 use Rattle.raw_syntax.specs.declared.RawElif.{RawElif}
 use Rattle.raw_syntax.specs.declared.RawHandler.{RawHandler}
@@ -26,7 +26,7 @@ use Rattle.py_syntax.specs.declared.ClassSort.TheVariants.{Exc}
 use Rattle.py_syntax.specs.declared.Class.{Class}
 use Rattle.py_syntax.specs.declared.Method.{Method}
 use Rattle.py_syntax.specs.declared.Module.{Module}
-use Rattle.py_front.specs.SmallTree.{local_number, with_name, is_reserved, Link, Argument, value, named, Shape, name, chain, call, field, plain, View, view, equation_at, ◌>>=◌, sum_of}
+use Rattle.py_front.specs.SmallTree.{local_number, with_name, is_reserved, Link, Argument, value, named, Shape, name, chain, call, field, View, view, equation_at, ◌>>=◌, sum_of}
 use Rattle.py_front.specs.declared.piece.Piece.{Piece}
 use Rattle.py_front.specs.declared.fault.FrontFault.{FrontFault}
 use Rattle.py_front.specs.declared.fault.FrontFault.TheVariants as faults

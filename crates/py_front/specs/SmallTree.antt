@@ -1,10 +1,10 @@
 -- Small expressions: operands with one sign between two of them. A number has at most nine digits, a name is that of a local
 -- that is assigned before, and brackets count for nothing. Every other form isn't built yet. Places are the project's own: an
 -- operator's is its mark, a field's or method's is the name behind the dot, a call's is the name called.
-use Rattle.std.specs.Prelude.{ℕ, ℤ, pos, negsuc, ◌+◌, Bool, not, nat_le, ◌==◌, List, [], ◌∷◌, ◌++◌, Result, Ok, Err, if◌then◌else◌, codes, bytes_eq}
+use Rattle.std.specs.Prelude.{ℕ, ℤ, pos, negsuc, ◌+◌, Bool, nat_le, List, [], ◌∷◌, ◌++◌, Result, Ok, Err, if◌then◌else◌, codes, bytes_eq}
 use Rattle.std.specs.List.{list_any, position_or_len}
 use Rattle.py_base.specs.declared.Place.{Place}
-use Rattle.raw_syntax.specs.declared.RawExpr.{RawExpr, RawExpr-F, fold-RawExpr}
+use Rattle.raw_syntax.specs.declared.RawExpr.{RawExpr, fold-RawExpr}
 use Rattle.raw_syntax.specs.declared.RawExprForm.{RawExprForm-F}
 use Rattle.raw_syntax.specs.declared.RawComparison.{RawComparison, RawComparison-F, fold-RawComparison}
 use Rattle.raw_syntax.specs.declared.RawArgument.{RawArgument, RawArgument-F, fold-RawArgument}

@@ -16,7 +16,7 @@ mod sums;
 mod words;
 
 pub use fault::FrontFault;
-pub use laws::a_text_has_one_answer;
+pub use laws::{a_text_has_one_answer, each_text_has_an_answer};
 pub use reader::front;
 pub use small_laws::a_spelled_module_is_small;
 

@@ -2,6 +2,11 @@ pub mod Begins
 pub mod CharacterCount
 pub mod Contexts
 pub mod CutMore
+pub mod EachPiece
+pub mod EachString
+pub mod EachText
+pub mod EachUtf8
+pub mod EachWord
 pub mod FirstOfPiece
 pub mod Forms
 pub mod Judging

@@ -10,11 +10,11 @@ begins_still : (cs ds : List ℕ) → begins_with_digit cs ≡ true → begins_w
 begins_still [] ds h = cc
 begins_still (c ∷ cs) ds h = h
 
-one_still : (b : Bool) (c : ℕ) (cs ds : List ℕ) → cond b (begins_with_digit cs) (is_digit c) ≡ true → cond b (begins_with_digit (cs ++ ds)) (is_digit c) ≡ true
+pub one_still : (b : Bool) (c : ℕ) (cs ds : List ℕ) → cond b (begins_with_digit cs) (is_digit c) ≡ true → cond b (begins_with_digit (cs ++ ds)) (is_digit c) ≡ true
 one_still true c cs ds h = begins_still cs ds h
 one_still false c cs ds h = h
 
-both_are : (a b : Bool) → a ≡ true → b ≡ true → (a && b) ≡ true
+pub both_are : (a b : Bool) → a ≡ true → b ≡ true → (a && b) ≡ true
 both_are true b h k = k
 both_are false b h k = cc
 
@@ -24,7 +24,7 @@ digits_append (c ∷ cs) ds h k =
     let (first, more) : (cond (c == 95) (begins_with_digit cs) (is_digit c) ≡ true) × (are_more_digits cs ≡ true) = both (cond (c == 95) (begins_with_digit cs) (is_digit c)) (are_more_digits cs) h in
     both_are (cond (c == 95) (begins_with_digit (cs ++ ds)) (is_digit c)) (are_more_digits (cs ++ ds)) (one_still (c == 95) c cs ds first) (digits_append cs ds more k)
 
-digits_behind : (cs ds : List ℕ) → AreMoreDigits (cs ++ ds) → AreMoreDigits ds
+pub digits_behind : (cs ds : List ℕ) → AreMoreDigits (cs ++ ds) → AreMoreDigits ds
 digits_behind [] ds h = h
 digits_behind (c ∷ cs) ds h = digits_behind cs ds (both (cond (c == 95) (begins_with_digit (cs ++ ds)) (is_digit c)) (are_more_digits (cs ++ ds)) h).1
 

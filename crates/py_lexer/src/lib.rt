@@ -4,6 +4,7 @@
 mod comments;
 mod cut;
 mod faults;
+mod laws;
 mod layout;
 mod marks;
 mod numbers;
@@ -16,6 +17,7 @@ mod widths;
 mod words;
 
 pub use cut::{CutText, text_pieces};
+pub use laws::each_text_has_tokens_or_a_fault;
 pub use places::{TextSpots, characters};
 pub use tokens::lex;
 

@@ -1,5 +1,5 @@
 -- The search of the first token that is nested too deep.
-use Rattle.std.proofs.Common.{arith, Bool, true, false, not, ℕ, suc, ◌+◌, ◌<◌, ◌≤◌, ◌≡◌, refl, sym, ◌∙◌, ap, subst, List, [], ◌∷◌, ◌++◌, length, take, drop, get_or, append_assoc, Option, Some, None, if◌then◌else◌}
+use Rattle.std.proofs.Common.{arith, Bool, true, false, not, ℕ, suc, ◌+◌, ◌<◌, ◌≤◌, ◌≡◌, refl, sym, ◌∙◌, ap, subst, List, [], ◌∷◌, ◌++◌, length, take, drop, get_or, append_assoc, append-nil, Option, Some, None, if◌then◌else◌, ◌⊎◌, inl, inr}
 use Rattle.std.proofs.lemmas.List.{take_more, take-append-drop}
 use Rattle.py_tokens.specs.declared.Token.{Token}
 use Rattle.py_tokens.specs.declared.TokenForm.{TokenForm}
@@ -8,6 +8,7 @@ use Rattle.py_tokens.specs.declared.Keyword.TheVariants as keys
 use Rattle.py_tokens.specs.declared.Mark.TheVariants as marks
 use Rattle.py_grammar.specs.Nesting.{open_after, ends_operand, is_prefix, Depth, depth_after, depth_of, nesting}
 use Rattle.py_parser.specs.Depths.{IsNowhereDeep, IsDeepAt, is_word_is, is_word_not, is_minus}
+use Rattle.py_parser.proofs.Cases.{within_or_over}
 use Rattle.py_parser.proofs.TokenSplits.{Within, is_last, is_earlier, is_within}
 
 pub not_behind : (b f : TokenForm) → is_word_not f ≡ true → is_prefix (Some b) f ≡ not (is_word_is b)
@@ -98,3 +99,20 @@ goes_on_to limit i ts opened prefixes o p before k within is eo ep r low =
 pub one_more : (b : Bool) (n p : ℕ) → p ≡ (if b then suc n else 0) → n ≤ 100 → p ≤ 101
 one_more true n p e low = omega (arith, e, low)
 one_more false n p e low = omega (arith, e)
+
+-- no token is nested too deep, or this one is the first
+pub data Search (limit : ℕ) (ts : List Token) : Type 0 where
+  is_nowhere : IsNowhereDeep limit ts → Search limit ts
+  is_found : (before : List Token) (k : Token) (after : List Token) → IsDeepAt limit ts before k after → Search limit ts
+
+-- from where no token was nested too deep
+search_from : (limit : ℕ) (front ts : List Token) → IsNowhereDeep limit front → Search limit (front ++ ts)
+search_from limit front [] low = is_nowhere (subst (λ (us : List Token). IsNowhereDeep limit us) (sym (append-nil front)) low)
+search_from limit front (k ∷ ts) low = search_at (within_or_over (nesting front k) limit) (λ h. subst (λ (us : List Token). Search limit us) (append_assoc front (k ∷ []) ts) (search_from limit (front ++ k ∷ []) ts h))
+  where
+    search_at : (nesting front k ≤ limit) ⊎ (limit < nesting front k) → (IsNowhereDeep limit (front ++ k ∷ []) → Search limit (front ++ k ∷ ts)) → Search limit (front ++ k ∷ ts)
+    search_at (inr deep) g = is_found front k ts (record { is = refl; deep = deep; first = low })
+    search_at (inl few) g = g (λ before more j e. still limit front k low few before more j (is_within front k before more j e))
+
+pub search_deep : (limit : ℕ) (ts : List Token) → Search limit ts
+search_deep limit ts = search_from limit [] ts (begins limit).nowhere

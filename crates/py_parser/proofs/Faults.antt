@@ -1,5 +1,5 @@
 -- Why a list of tokens has no tree.
-use Rattle.std.proofs.Common.{ℕ, ◌<◌, ◌≤◌, arith, ◌≡◌, refl, sym, ◌∙◌, ap, subst, List, [], ◌∷◌, ◌++◌, append_assoc, append-nil}
+use Rattle.std.proofs.Common.{ℕ, ◌<◌, arith, ◌≡◌, refl, sym, ◌∙◌, ap, subst, List, [], ◌∷◌, ◌++◌, append_assoc, append-nil}
 use Rattle.py_base.specs.declared.Place.{Place}
 use Rattle.py_tokens.specs.declared.Token.{Token}
 use Rattle.raw_syntax.specs.declared.Raw.{Raw}

@@ -1,10 +1,11 @@
 -- What is left to look at in the search of a line that is too long.
-use Rattle.std.proofs.Common.{arith, ℕ, suc, ◌+◌, ◌<◌, ◌≤◌, Bool, true, false, ◌&&◌, nat_le, ◌≡◌, refl, sym, ap, subst, List, [], ◌∷◌, ◌++◌, ◌⊎◌, inl, inr, if◌then◌else◌}
+use Rattle.std.proofs.Common.{arith, ℕ, suc, ◌+◌, ◌<◌, ◌≤◌, Bool, true, false, ◌&&◌, nat_le, ◌≡◌, refl, sym, ap, subst, List, [], ◌∷◌, ◌⊎◌, inl, inr}
 use Rattle.std.proofs.lemmas.Bool.{leb-false}
 use Rattle.py_tokens.specs.declared.Token.{Token}
 use Rattle.py_tokens.specs.declared.TokenForm.{TokenForm}
 use Rattle.py_tokens.specs.declared.TokenForm.TheVariants as forms
 use Rattle.py_parser.specs.Limits.{is_counted, ends_line, count_behind, line_length, HasLongLine}
+use Rattle.py_parser.proofs.Cases.{within_or_over}
 
 -- the line that goes on here, behind so many tokens, is too long, or a line that begins later is
 abbrev pub LongFrom : ℕ → ℕ → List Token → Type 0
@@ -86,3 +87,13 @@ none limit n low (inl h) = omega (arith, low, h)
 none limit n low (inr ([], [], is, h)) = omega (arith, low, h)
 none limit n low (inr ([], a ∷ after, is, h)) = cc
 none limit n low (inr (b ∷ before, after, is, h)) = cc
+
+-- a list has a line that is too long, or has none
+pub long_or_not : (limit : ℕ) (ts : List Token) → HasLongLine limit ts ⊎ (HasLongLine limit ts → ⊥)
+long_or_not limit [] = inr (λ h. none limit 0 (omega (arith)) (starts limit [] h))
+long_or_not limit (k ∷ ts) = by (within_or_over (line_length (k ∷ ts)) limit) (long_or_not limit ts)
+  where
+    by : (line_length (k ∷ ts) ≤ limit) ⊎ (limit < line_length (k ∷ ts)) → HasLongLine limit ts ⊎ (HasLongLine limit ts → ⊥) → HasLongLine limit (k ∷ ts) ⊎ (HasLongLine limit (k ∷ ts) → ⊥)
+    by (inr long) d = inl ([], k ∷ ts, refl, long)
+    by (inl few) (inl h) = inl (before_it limit k ts h)
+    by (inl few) (inr n) = inr (λ h. elim (behind limit k ts h) [ inl g ↦ omega (arith, few, g) | inr g ↦ n g ])

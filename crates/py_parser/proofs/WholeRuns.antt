@@ -3,7 +3,7 @@ use Rattle.std.proofs.Common.{◌≡◌, refl, ◌∙◌, ap, List, [], ◌∷�
 use Rattle.py_tokens.specs.declared.Token.{Token}
 use Rattle.raw_syntax.specs.declared.Raw.{Raw}
 use Rattle.py_grammar.specs.Symbols.{Sym, Value, vitems, vmodule, doc, imports, items}
-use Rattle.py_grammar.specs.Machine.{Out, bad, short, done, run, run_module}
+use Rattle.py_grammar.specs.Machine.{bad, done, run, run_module}
 
 -- it reads the module and leaves these tokens
 abbrev pub Leaves : List Token → Raw → List Token → Type 0

@@ -1,8 +1,7 @@
-use Rattle.std.proofs.Common.{◌≡◌, Option, IfSome, Err, ap, ◌∙◌}
+use Rattle.std.proofs.Common.{Option, IfSome, Err, ap, ◌∙◌}
 use Rattle.std.proofs.lemmas.Result.{IfOk-weaker}
 use Rattle.io_edge.specs.Outside.{Held, held_at, IsTooLong}
 use Rattle.nagini_cli.specs.Allowed.{long_file}
-use Rattle.nagini_cli.specs.Preparing.{IsUnread}
 use Rattle.nagini_cli.specs.declared.check.TheConstants.{FILE_LIMIT}
 use Rattle.nagini_cli.proofs.Told.{long_bytes}
 use Rattle.nagini_cli.proofs.prepare.prepare.Goals as goal

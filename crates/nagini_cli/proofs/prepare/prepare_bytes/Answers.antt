@@ -1,6 +1,5 @@
 use Rattle.std.proofs.lemmas.Result.{IfOk-weaker}
-use Rattle.nagini_cli.specs.Preparing.{ByBytes}
-use Rattle.nagini_cli.specs.RunAnswers.{AreShort, refused}
+use Rattle.nagini_cli.specs.RunAnswers.{refused}
 use Rattle.nagini_cli.proofs.Answered.{is_module, is_refused, no_read_fault}
 use Rattle.nagini_cli.proofs.prepare.prepare_bytes.Goals as goal
 

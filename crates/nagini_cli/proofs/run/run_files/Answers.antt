@@ -1,4 +1,4 @@
-use Rattle.std.proofs.Common.{◌≡◌, ℕ, List, Option, refl, sym, subst, inr}
+use Rattle.std.proofs.Common.{ℕ, List, Option, refl, sym, subst, inr}
 use Rattle.io_edge.specs.Outside.{Held}
 use Rattle.py_syntax.specs.declared.Module.{Module}
 use Rattle.schedule_runner.specs.declared.schedule.ScheduleLine.{ScheduleLine}

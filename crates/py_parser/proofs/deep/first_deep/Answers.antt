@@ -1,4 +1,4 @@
-use Rattle.std.proofs.Common.{arith, ◌+◌, ◌≡◌, sym, ◌∙◌, subst, drop, take, rules}
+use Rattle.std.proofs.Common.{arith, ◌+◌, drop, take, rules}
 use Rattle.std.specs.Option.{option_map}
 use Rattle.py_grammar.specs.Nesting.{is_prefix}
 use Rattle.py_parser.specs.Depths.{form_of}

@@ -1,4 +1,4 @@
-use Rattle.std.proofs.Common.{ℕ, ◌≤◌, take, length, ◌-◌}
+use Rattle.std.proofs.Common.{◌≤◌, take, length, ◌-◌}
 use Rattle.std.specs.Option.{option_map}
 use Rattle.py_parser.specs.Depths.{form_of}
 use Rattle.py_parser.proofs.DeepTokens.{Reads}

@@ -1,7 +1,6 @@
-use Rattle.std.proofs.Common.{rules, ◌≡◌, sym, ◌∙◌, subst, ap, []}
+use Rattle.std.proofs.Common.{rules, ◌≡◌, sym, ◌∙◌, subst, []}
 use Rattle.std.proofs.lemmas.Bool.{false≢true}
-use Rattle.py_parser.specs.Limits.{HasLongLine}
-use Rattle.py_parser.proofs.LongLines.{LongFrom, starts, started, over, goes, none}
+use Rattle.py_parser.proofs.LongLines.{LongFrom, starts, started, goes, none}
 use Rattle.py_parser.proofs.long.has_long_line.Goals as goal
 
 pub tokens-init : goal.tokens-init

@@ -1,4 +1,4 @@
-use Rattle.std.proofs.Common.{ℕ, ◌≤◌, length}
+use Rattle.std.proofs.Common.{◌≤◌, length}
 use Rattle.py_parser.specs.Limits.{HasLongLine}
 use Rattle.py_parser.proofs.LongLines.{LongFrom}
 use Rattle.py_parser.proofs.long.has_long_line.Given as goal
