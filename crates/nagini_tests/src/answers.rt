@@ -1,5 +1,5 @@
 // The status and the text of `check`, for modules and for words.
-use crate::fixtures::{SMALLEST, one_file, words_of};
+use crate::fixtures::{COUNTER, SMALLEST, one_file, words_of};
 use io_edge::MemSink;
 use nagini_cli::nagini;
 use std::alloc::Global;
@@ -18,6 +18,46 @@ fn gives(
     let mut out = MemSink::new(alloc, Vec::new(alloc));
     let answer = nagini(alloc, &words, &mut files, &mut out);
     Ok(answer == status && out.written() == output.as_bytes())
+}
+
+/// The status of `check` for a text.
+fn status_of(alloc: Global, text: &[u8]) -> Result<u8, std::alloc::AllocError> {
+    let words = words_of(alloc, "check m.py")?;
+    let mut files = one_file(alloc, text, Vec::new(alloc))?;
+    let mut out = MemSink::new(alloc, Vec::new(alloc));
+    Ok(nagini(alloc, &words, &mut files, &mut out))
+}
+
+/// The first bytes of a text, so many; None where it has fewer.
+fn front_of(text: &str, length: usize) -> Option<&[u8]> {
+    text.as_bytes().get(..length)
+}
+
+// No front of the first text is a small module. Of those of the second one, which has no false assert, the ones are that
+// end with its first, second or last statement, and with the line end and up to four spaces behind: 6, 6 and 2.
+#[test]
+fn each_front_of_a_text_has_an_answer(rt: HostRuntime) -> Result<(), Fail> {
+    let alloc = rt.alloc();
+    for length in 0..695_usize {
+        let Some(front) = front_of(COUNTER, length) else {
+            return Err("no such front".into());
+        };
+        assert_eq!(rt; status_of(alloc, front)?, 2, "{length}");
+    }
+    let mut accepted = 0_u8;
+    for length in 0..66_usize {
+        let Some(front) = front_of(SMALLEST, length) else {
+            return Err("no such front".into());
+        };
+        let status = status_of(alloc, front)?;
+        if status == 0 {
+            accepted = accepted.saturating_add(1);
+        } else {
+            assert_eq!(rt; status, 2, "{length}");
+        }
+    }
+    assert_eq!(rt; accepted, 14);
+    Ok(())
 }
 
 #[test]

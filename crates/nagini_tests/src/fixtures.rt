@@ -5,6 +5,37 @@ use std::alloc::{AllocError, Global};
 /// The smallest module that assigns, asserts and prints.
 pub const SMALLEST: &str = "def main() -> None:\n    x = 3\n    assert x + 2 == 5\n    print(x)\n";
 
+/// Two threads that each add one to a counter under its lock.
+pub const COUNTER: &str = "from nagini_contracts.contracts import *
+
+class Cell:
+    def __init__(self, v: int) -> None:
+        Ensures(Acc(self.value) and self.value == v)
+        self.value = v
+
+class CellLock(Lock[Cell]):
+    @Predicate
+    def invariant(self) -> bool:
+        return Acc(self.get_locked().value)
+
+def work(l: CellLock) -> None:
+    Requires(WaitLevel() < Level(l))
+    with l:
+        c = l.get_locked()
+        c.value = c.value + 1
+
+def main() -> None:
+    l = CellLock(Cell(0), 10)
+    a = Thread(target=work, args=(l,), level=5)
+    b = Thread(target=work, args=(l,), level=6)
+    a.start(work)
+    b.start(work)
+    a.join(work)
+    b.join(work)
+    with l:
+        print(l.get_locked().value)
+";
+
 /// The words of a command line, parted by single spaces; no words where the line is empty.
 pub fn words_of(alloc: Global, line: &str) -> Result<Vec<String>, AllocError> {
     let mut words = Vec::new(alloc);

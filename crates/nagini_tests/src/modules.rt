@@ -1,4 +1,5 @@
 // Modules, classes and functions with their places, and the fronts of a module.
+use crate::fixtures::COUNTER;
 use crate::readings::{parsed, shown, syntax, tokens_of};
 use py_tokens::Token;
 use std::alloc::Global;
@@ -100,23 +101,23 @@ fn front_of(alloc: Global, text: &str, count: usize) -> Option<Vec<Token>> {
     Some(tokens)
 }
 
-// Nothing, the import, the class, the predicate and the lock end behind 0, 7, 49, 79 and all 115 tokens. The text's end
-// stands at 17:1.
+// Nothing, the import, the two classes, the worker and the whole end behind 0, 7, 50, 88, 137 and all 244 tokens. The
+// text's end stands at 29:1.
 #[test]
 fn a_front_of_a_module_is_a_module_or_ends_too_soon(rt: HostRuntime) -> Result<(), Fail> {
     let alloc = rt.alloc();
-    for count in 0..116_usize {
-        let Some(tokens) = front_of(alloc, LOCKED_CELL, count) else {
+    for count in 0..245_usize {
+        let Some(tokens) = front_of(alloc, COUNTER, count) else {
             return Err("no tokens".into());
         };
         assert_eq!(rt; tokens.len(), count + 1);
         let Some(answer) = parsed(alloc, &tokens) else {
             return Err("no end".into());
         };
-        if [0, 7, 49, 79, 115].contains(&count) {
+        if [0, 7, 50, 88, 137, 244].contains(&count) {
             assert!(rt; answer.is_ok(), "{count}");
         } else {
-            assert_eq!(rt; answer.err(), Some(syntax(17, 1)), "{count}");
+            assert_eq!(rt; answer.err(), Some(syntax(29, 1)), "{count}");
         }
     }
     Ok(())

@@ -1,39 +1,9 @@
 // The tokens of worked examples, written out with single blanks and read again.
+use crate::fixtures::COUNTER;
 use py_lexer::lex;
 use py_tokens::{LexFault, Token, TokenForm};
 use std::alloc::{AllocError, Global};
 use std::test::Fail;
-
-/// Two threads that each add one to a counter under its lock.
-const COUNTER: &str = "from nagini_contracts.contracts import *
-
-class Cell:
-    def __init__(self, v: int) -> None:
-        Ensures(Acc(self.value) and self.value == v)
-        self.value = v
-
-class CellLock(Lock[Cell]):
-    @Predicate
-    def invariant(self) -> bool:
-        return Acc(self.get_locked().value)
-
-def work(l: CellLock) -> None:
-    Requires(WaitLevel() < Level(l))
-    with l:
-        c = l.get_locked()
-        c.value = c.value + 1
-
-def main() -> None:
-    l = CellLock(Cell(0), 10)
-    a = Thread(target=work, args=(l,), level=5)
-    b = Thread(target=work, args=(l,), level=6)
-    a.start(work)
-    b.start(work)
-    a.join(work)
-    b.join(work)
-    with l:
-        print(l.get_locked().value)
-";
 
 /// Two threads that use one field without a lock.
 const RACE: &str = "class Cell:
