@@ -10,7 +10,7 @@ use Rattle.py_syntax.specs.declared.StmtForm.TheVariants.{Store, Check, Print}
 use Rattle.raw_syntax.specs.declared.RawExpr.{RawExpr}
 use Rattle.raw_syntax.specs.declared.Comparison.TheVariants as compares
 use Rattle.py_tokens.specs.declared.Mark.TheVariants as marks
-use Rattle.py_front.specs.SmallTree.{is_known, local_number, with_name, view, View, Shape, name, chain, call, value, equation_at, seen_as, name_piece, ◌>>=◌, sum_of}
+use Rattle.py_front.specs.SmallTree.{local_number, with_name, view, View, name, call, value, equation_at, seen_as, name_piece, ◌>>=◌, sum_of}
 use Rattle.py_front.specs.SmallTree as tree
 use Rattle.py_front.specs.SmallModule.{statement, store_of, last_link, check_of, print_of, keeping, form_of, stmt_of}
 use Rattle.small_text.specs.SmallForms.{is_letter, is_name, reserved_words, is_reserved, stmt_at, SpellsExpr, SpellsStmt, spells_pass, spells_store, spells_check, spells_print}

@@ -8,7 +8,7 @@ use Rattle.raw_syntax.specs.declared.RawExpr.{RawExpr}
 use Rattle.py_grammar.specs.ExprGrammar as e
 use Rattle.py_grammar.specs.ExprGrammar.{ReadsExpr, ReadsCmp, ReadsSum, ReadsProd, ReadsPost}
 use Rattle.py_grammar.specs.StmtGrammar as s
-use Rattle.py_grammar.specs.StmtGrammar.{ReadsSimple, ReadsStmt, ReadsStmts, ReadsBlock}
+use Rattle.py_grammar.specs.StmtGrammar.{ReadsStmt, ReadsStmts, ReadsBlock}
 use Rattle.py_grammar.specs.ModuleGrammar as m
 use Rattle.py_grammar.specs.Spelling.{Spells}
 use Rattle.small_text.proofs.LineBits.{Operand, digits, word, Sum, alone, plus, minus, Said, passes, stores, checks, prints, Row, blank, remark, head, says, Bit, operand_form, sum_bits, said_bits, at, bits_tokens, line_tokens, body_tokens, small_tokens}
