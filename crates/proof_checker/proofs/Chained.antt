@@ -3,8 +3,11 @@ use Rattle.std.specs.Prelude.{◌≡◌, ℕ, zero, suc, List, [], ◌∷◌, �
 use Rattle.std.proofs.Common.{refl, arith, rules, Bor}
 use Rattle.terms.specs.declared.Literal.{Literal}
 use Rattle.proof_checker.specs.declared.view.View.{View}
-use Rattle.proof_checker.specs.declared.chain.Chain.{Chain, More, the_lemmas}
+use Rattle.proof_checker.specs.declared.chain.Chain.{Chain, First, More, the_lemmas}
 use Rattle.proof_checker.specs.Chains.{facts, view_literal}
+
+pub facts-First : facts First ≡ []
+facts-First = search (rules, the_lemmas)
 
 pub facts-More : (before : Bor Chain) (v : View) → facts (More before v) ≡ facts before.now ++ view_literal v ∷ []
 facts-More before v = search (rules, the_lemmas)

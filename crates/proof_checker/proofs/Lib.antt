@@ -8,3 +8,16 @@ pub mod Ruled
 mod Splitting
 mod Combining
 pub mod Sound
+pub mod Narrow
+pub mod Replying
+pub mod Figuring
+pub mod Symbols
+pub mod RowFitting
+mod Existing
+pub mod Adding
+pub mod Counting
+pub mod Numbering
+pub mod Pairing
+pub mod Applying
+mod Sided
+mod Derived

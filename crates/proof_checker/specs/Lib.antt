@@ -5,3 +5,8 @@ pub mod Chains
 pub mod Rows
 pub mod Derivations
 pub mod Valuations
+pub mod Additions
+pub mod Figures
+pub mod Combos
+pub mod Uses
+pub mod Pairs
