@@ -1,0 +1,10 @@
+mod Differing
+mod Forming
+mod Gathering
+mod Numbering
+mod Meeting
+mod References
+mod Deriving
+mod Valuing
+mod Collected
+mod Rounds

@@ -1,0 +1,4 @@
+pub mod Differences
+pub mod FactRows
+pub mod Outcomes
+pub mod ReferencePairs
