@@ -34,18 +34,6 @@ fn condition(alloc: Global, first: Literal, last: Literal) -> Result<Condition, 
     Ok(Condition { hyps, goal: last })
 }
 
-fn condition_of_two(
-    alloc: Global,
-    first: Literal,
-    second: Literal,
-    last: Literal,
-) -> Result<Condition, OutOfMemory> {
-    let mut hyps = Items::new(alloc);
-    hyps.push(first)?;
-    hyps.push(second)?;
-    Ok(Condition { hyps, goal: last })
-}
-
 fn is_clash(c: &Condition, i: u32, j: u32) -> bool {
     check_derivation(c, &Derivation::Clash(i, j))
 }
@@ -59,9 +47,6 @@ fn a_condition_is_sorted_where_each_literal_is(rt: HostRuntime) -> Result<(), Fa
     assert!(rt; !first.is_sorted());
     let last = condition(alloc, order(), unsorted()).map_err(|_| "no condition")?;
     assert!(rt; !last.is_sorted());
-    let refused = condition_of_two(alloc, unsorted(), held(0), held(0));
-    let refused = refused.map_err(|_| "no condition")?;
-    assert!(rt; !is_clash(&refused, 1, 2));
     Ok(())
 }
 
