@@ -1,0 +1,9 @@
+pub mod ConditionPoints
+pub mod Decisions
+pub mod Differences
+pub mod FactRows
+pub mod FlagFacts
+pub mod FormsTold
+pub mod Outcomes
+pub mod ReferencePairs
+pub mod ReferenceValues

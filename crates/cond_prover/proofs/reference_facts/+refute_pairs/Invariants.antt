@@ -1,5 +1,0 @@
-use Rattle.std.proofs.Common.{length}
-use Rattle.cond_prover.proofs.reference_facts.+refute_pairs.Given as goal
-
-abbrev pub decreases-refute_pairs : goal.decreases-refute_pairs
-decreases-refute_pairs l = length l.equal.now

@@ -1,6 +1,0 @@
-use Rattle.std.specs.Prelude.{◌≡◌, take, map}
-use Rattle.cond_prover.specs.FactRows.{renumbered}
-use Rattle.cond_prover.proofs.renumbering.renumber_steps.Given as goal
-
-abbrev pub invariant-loop-step : goal.invariant-loop-step
-invariant-loop-step l = l.list ≡ map (renumbered l.fn.numbers l.fn.first) (take l.step-index l.fn.steps)

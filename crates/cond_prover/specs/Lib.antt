@@ -1,4 +1,0 @@
-pub mod Differences
-pub mod FactRows
-pub mod Outcomes
-pub mod ReferencePairs
