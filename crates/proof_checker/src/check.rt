@@ -1,4 +1,5 @@
-// Whether a derivation derives a condition.
+// Whether a derivation derives a condition. Each way is a call that isn't inlined, and so are the rules that it applies: a level
+// of nesting then takes at most about 500 bytes of the stack.
 ghost use Rattle.std.specs.Prelude.{◌≡◌, ◌↔◌, ◌∷◌, ◌++◌, [], map, IsTrue};
 ghost use Rattle.terms.specs.Meanings.{Valued};
 ghost use Rattle.proof_checker.specs.Conditions.{HoldsAt, IsSorted, opposite, plain_literal};
@@ -20,6 +21,7 @@ use terms::Literal;
 
 /// Whether a derivation derives a condition from assumptions.
 #[cycle(derivations)]
+#[inline(never)]
 fn derives_from<'a>(d: &'a Derivation, c: &'a Condition, chain: &'a Chain<'a>) -> bool
     ensures { IsTrue result ↔ DerivesFrom c.now (facts chain.now) d.now }
 {
@@ -36,6 +38,7 @@ fn derives_from<'a>(d: &'a Derivation, c: &'a Condition, chain: &'a Chain<'a>) -
 
 /// Whether it does so with an assumption added.
 #[cycle(derivations)]
+#[inline(always)]
 fn derives_adding<'a>(
     d: &'a Derivation,
     c: &'a Condition,
@@ -49,6 +52,7 @@ fn derives_adding<'a>(
 
 /// Whether it does so with a literal added.
 #[cycle(derivations)]
+#[inline(never)]
 fn derives_with<'a>(
     d: &'a Derivation,
     c: &'a Condition,
@@ -62,6 +66,7 @@ fn derives_with<'a>(
 
 /// Whether it does so with the other side of a split on a literal added.
 #[cycle(derivations)]
+#[inline(never)]
 fn derives_without<'a>(
     d: &'a Derivation,
     c: &'a Condition,
@@ -78,6 +83,7 @@ fn derives_without<'a>(
 
 /// Whether it does so with a replacement added.
 #[cycle(derivations)]
+#[inline(never)]
 fn derives_replaced<'a>(
     d: &'a Derivation,
     c: &'a Condition,
@@ -95,6 +101,7 @@ fn derives_replaced<'a>(
 
 /// Whether it does so with the equality of two applications' results added.
 #[cycle(derivations)]
+#[inline(never)]
 fn derives_applied<'a>(
     d: &'a Derivation,
     c: &'a Condition,

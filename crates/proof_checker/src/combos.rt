@@ -155,6 +155,7 @@ fn ends_false(steps: &[ComboStep]) -> bool
 }
 
 /// Whether steps show that the rows of the assumptions aren't met together.
+#[inline(never)]
 pub fn is_combination<'a>(chain: &'a Chain<'a>, steps: &'a [ComboStep]) -> bool
     ensures { IsTrue result ↔ Combines (facts chain.now) steps.now }
 {

@@ -11,6 +11,7 @@ use crate::view::{View, is_false, is_opposite};
 use terms::Term;
 
 /// Whether two assumptions are opposites, or one is false by itself.
+#[inline(never)]
 pub fn do_clash<'a>(chain: &'a Chain<'a>, i: u32, j: u32) -> bool
     ensures { IsTrue result ↔ Clashes (facts chain.now) i j }
 {

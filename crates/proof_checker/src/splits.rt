@@ -104,6 +104,7 @@ fn may_be_same(c: &Condition, a: &Term, b: &Term) -> bool
 }
 
 /// The literal of the other side of a split.
+#[inline(never)]
 pub fn other_side<'a>(c: &'a Condition, chain: &'a Chain<'a>, l: &'a Literal) -> Option<View<'a>>
     ensures { Finds (IsOtherSide c.now (facts chain.now) l.now) result }
 {
@@ -149,6 +150,7 @@ fn put_equality<'a>(equality: &'a View<'a>, into: &'a View<'a>) -> Option<View<'
 }
 
 /// The second assumption with the equality that is the first put into it.
+#[inline(never)]
 pub fn replacement<'a>(chain: &'a Chain<'a>, i: u32, j: u32) -> Option<View<'a>>
     ensures { Finds (IsReplacement (facts chain.now) i j) result }
 {

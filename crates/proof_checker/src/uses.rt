@@ -67,6 +67,7 @@ fn follows<'a>(chain: &'a Chain<'a>, f: Use<'a>, g: Use<'a>) -> Option<View<'a>>
 
 /// The equality of the results of two applications of one operator whose operands are the same or
 /// assumed to be so.
+#[inline(never)]
 pub fn congruence<'a>(c: &'a Condition, chain: &'a Chain<'a>, i: u32, j: u32) -> Option<View<'a>>
     ensures some { IfSome result (λ v. (k : Literal) → Congruence c.now (facts chain.now) i j k ↔ (k ≡ view_literal v)) }
     ensures none { IfNone result ((k : Literal) → ¬ (Congruence c.now (facts chain.now) i j k)) }
