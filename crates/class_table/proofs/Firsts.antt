@@ -1,0 +1,56 @@
+-- The first of some faults comes before or with each of them.
+use Rattle.std.proofs.Common.{◌≡◌, refl, sym, ℕ, Bool, true, false, ◌||◌, ◌&&◌, nat_lt, nat_eq, List, [], ◌∷◌, Some, None, subst, inl, inr, arith, if◌then◌else◌}
+use Rattle.std.proofs.lemmas.Bool.Decides.{nat_tests}
+use Rattle.class_table.specs.declared.fault.ClassFault.{ClassFault}
+use Rattle.class_table.specs.Faults.{place_of, rank_of, comes_before, sooner, first_of}
+use Rattle.class_table.specs.Order.{IsAmong, IsFirstOf}
+
+abbrev below : ℕ → ℕ → ℕ → ℕ → ℕ → ℕ → Bool
+below l c r m d s = nat_lt l m || (nat_eq l m && (nat_lt c d || (nat_eq c d && nat_lt r s)))
+
+-- what isn't below the second, which isn't below the third, isn't below the third
+chained : (l c r m d s n e t : ℕ) → below l c r m d s ≡ false → below m d s n e t ≡ false → below l c r n e t ≡ false
+chained l c r m d s n e t h k = grind (arith, nat_tests, h, k)
+
+turned : (l c r m d s : ℕ) → below l c r m d s ≡ true → below m d s l c r ≡ false
+turned l c r m d s h = grind (arith, nat_tests, h)
+
+level : (l c r : ℕ) → below l c r l c r ≡ false
+level l c r = grind (arith, nat_tests)
+
+-- the same of faults
+chained_faults : (f g h : ClassFault) → comes_before f g ≡ false → comes_before g h ≡ false → comes_before f h ≡ false
+chained_faults f g h p q = chained (place_of f).line (place_of f).col (rank_of f) (place_of g).line (place_of g).col (rank_of g) (place_of h).line (place_of h).col (rank_of h) p q
+
+turned_faults : (f g : ClassFault) → comes_before f g ≡ true → comes_before g f ≡ false
+turned_faults f g p = turned (place_of f).line (place_of f).col (rank_of f) (place_of g).line (place_of g).col (rank_of g) p
+
+level_fault : (f : ClassFault) → comes_before f f ≡ false
+level_fault f = level (place_of f).line (place_of f).col (rank_of f)
+
+among : (best g f : ClassFault) (gs : List ClassFault) → IsAmong f (best ∷ gs) → IsAmong f (best ∷ g ∷ gs)
+among best g f gs (inl e) = inl e
+among best g f gs (inr m) = inr (inr m)
+
+-- one more fault, of which the sooner one is kept
+one_more : (best g f : ClassFault) (gs : List ClassFault) (b : Bool) → comes_before g best ≡ b → IsFirstOf ((if b then g else best) ∷ gs) f → IsFirstOf (best ∷ g ∷ gs) f
+one_more best g f gs true e h = record { is_among = inr h.is_among; is_first = (chained_faults best g f (turned_faults g best e) h.is_first.0, h.is_first) }
+one_more best g f gs false e h = record { is_among = among best g f gs h.is_among; is_first = (h.is_first.0, (chained_faults g best f e h.is_first.0, h.is_first.1)) }
+
+kept : (best f : ClassFault) (fs : List ClassFault) → first_of (Some best) fs ≡ Some f → IsFirstOf (best ∷ fs) f
+kept best f [] e =
+    let same : best ≡ f = cc in
+    record { is_among = inl (sym same); is_first = (subst (λ x. comes_before best x ≡ false) same (level_fault best), tt) }
+kept best f (g ∷ gs) e = one_more best g f gs (comes_before g best) refl (kept (sooner (Some best) g) f gs e)
+
+pub first_is_first : (fs : List ClassFault) (f : ClassFault) → first_of None fs ≡ Some f → IsFirstOf fs f
+first_is_first [] f e = absurd (cc)
+first_is_first (g ∷ gs) f e = kept g f gs e
+
+still_some : (best : ClassFault) (fs : List ClassFault) → first_of (Some best) fs ≡ None → ⊥
+still_some best [] e = cc
+still_some best (g ∷ gs) e = still_some (sooner (Some best) g) gs e
+
+pub none_is_none : (fs : List ClassFault) → first_of None fs ≡ None → fs ≡ []
+none_is_none [] e = refl
+none_is_none (g ∷ gs) e = absurd (still_some g gs e)

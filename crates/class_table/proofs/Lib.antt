@@ -1,0 +1,4 @@
+pub mod Positions
+pub mod Chains
+mod Examples
+pub mod Firsts

@@ -1,0 +1,10 @@
+pub mod Names
+pub mod Shapes
+pub mod Bases
+pub mod Values
+pub mod Declaring
+pub mod Tables
+pub mod Faults
+pub mod ClassList
+pub mod Lookup
+pub mod Order
