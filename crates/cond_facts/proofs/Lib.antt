@@ -12,10 +12,10 @@ mod Collected
 mod Rounds
 mod Unclashed
 mod Opposing
-mod Standing
-mod FactLaws
+pub mod Standing
+pub mod FactLaws
 mod FormTelling
 mod NarrowRows
-mod Fitted
-mod Firsts
+pub mod Fitted
+pub mod Firsts
 mod Answered
