@@ -3,17 +3,23 @@
 #![tactic(auto)]
 
 #[cfg(test)]
+mod clash_tests;
+#[cfg(test)]
 mod clashes;
 #[cfg(test)]
 mod congruences;
 #[cfg(test)]
 mod deep;
 #[cfg(test)]
+mod figure_tests;
+#[cfg(test)]
 mod long_chains;
 #[cfg(test)]
 mod plans;
 #[cfg(test)]
 mod replacements;
+#[cfg(test)]
+mod rule_tests;
 #[cfg(test)]
 mod splits;
 #[cfg(test)]

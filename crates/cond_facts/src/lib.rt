@@ -22,10 +22,3 @@ pub use laws::{
 };
 pub use reference_facts::{References, refute_references};
 pub use row_facts::{RowOutcome, solve_rows};
-
-#[cfg(test)]
-mod flag_tests;
-#[cfg(test)]
-mod reference_tests;
-#[cfg(test)]
-mod tests;

@@ -16,8 +16,3 @@ pub use gap::{Gap, gap_of};
 pub use need::{Need, Needed, first_need};
 pub use plan::{Applied, Comparison, Plan, plan_of};
 pub use repair::{Repair, first_repair};
-
-#[cfg(test)]
-mod plan_tests;
-#[cfg(test)]
-mod point_tests;

@@ -20,6 +20,3 @@ mod worst;
 
 pub use laws::combinations_exclude_points;
 pub use solving::{Solved, solve};
-
-#[cfg(test)]
-mod tests;

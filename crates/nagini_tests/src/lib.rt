@@ -8,6 +8,8 @@ mod expressions;
 #[cfg(test)]
 mod fixtures;
 #[cfg(test)]
+mod front;
+#[cfg(test)]
 mod limits;
 #[cfg(test)]
 mod modules;

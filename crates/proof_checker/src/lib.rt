@@ -43,10 +43,3 @@ pub use view::{
     Kind, View, is_false, is_opposite, put_in_view, replaced, same_views, stands_in_view, view_of,
 };
 pub use walk::Use;
-
-#[cfg(test)]
-mod figure_tests;
-#[cfg(test)]
-mod rule_tests;
-#[cfg(test)]
-mod tests;

@@ -19,6 +19,3 @@ pub use fault::FrontFault;
 pub use laws::{a_text_has_one_answer, each_text_has_an_answer};
 pub use reader::front;
 pub use small_laws::a_spelled_module_is_small;
-
-#[cfg(test)]
-mod tests;

@@ -15,6 +15,3 @@ pub use laws::{
     clashes_stay_with_more, equal_terms_mean_the_same, equal_terms_stand, equalities_stay_with_more,
 };
 pub use merging::equal_classes;
-
-#[cfg(test)]
-mod tests;
