@@ -1,0 +1,4 @@
+pub mod Faults
+pub mod Types
+pub mod Members
+pub mod Locals
