@@ -1,0 +1,14 @@
+use Rattle.cond_search.proofs.Telling.{results_told, results_wide, results_narrow, wide_point}
+use Rattle.cond_search.proofs.next.results_step.Goals as goal
+
+pub returns-then-branch-clause-step : goal.returns-then-branch-clause-step
+returns-then-branch-clause-step c =
+    results_told c.args.c.now c.args.plan.now c.args.facts.now c.args.place c.args.congruence c.in_ok-do_rows_fit.field-0 c.if-branch.true c.requires.proposed c.in_ok-do_rows_fit.ensures
+
+pub returns-else-branch-clause-step : goal.returns-else-branch-clause-step
+returns-else-branch-clause-step c =
+    wide_point c.args.c.now c.args.place c.wide_row.result c.wide_row.ensures (results_wide c.args.c.now c.args.plan.now c.args.facts.now c.args.place c.args.congruence c.in_ok-do_rows_fit.field-0 c.if-branch.false c.requires.begun c.requires.proposed c.in_ok-do_rows_fit.ensures)
+
+pub returns-else-branch-clause-narrow : goal.returns-else-branch-clause-narrow
+returns-else-branch-clause-narrow c narrow =
+    results_narrow c.args.c.now c.args.plan.now c.args.facts.now c.args.place c.args.congruence c.in_ok-do_rows_fit.field-0 c.if-branch.false c.requires.proposed c.in_ok-do_rows_fit.ensures narrow
