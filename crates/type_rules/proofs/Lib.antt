@@ -1,0 +1,4 @@
+pub mod Chains
+pub mod Behind
+pub mod Answering
+mod Cases
