@@ -1,5 +1,3 @@
-mod Depths
-mod Floors
 mod Arguments
 mod Opened
 mod Plans

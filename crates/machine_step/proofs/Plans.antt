@@ -20,10 +20,10 @@ use Rattle.machine_model.specs.Calls.{entry_duties}
 use Rattle.py_base.specs.declared.Kind.TheVariants.{PreValue}
 use Rattle.machine_model.specs.Steps.{entry_of_main, control_step, frames_step, thread_step, state_step}
 use Rattle.machine_model.specs.Items.{act}
-use Rattle.machine_step.specs.declared.stop.Stop.{Stop}
+use Rattle.machine_values.specs.declared.Stop.{Stop}
 use Rattle.machine_step.specs.declared.change.Deed.{Deed}
 use Rattle.machine_step.specs.declared.change.Plan.{Plan}
-use Rattle.machine_step.specs.Agreement.{Agrees}
+use Rattle.machine_values.specs.Agreement.{Agrees}
 use Rattle.machine_step.specs.Built.{HasNoConditions, AreBuiltFrames, IsBuiltFrame, IsBuiltThread, IsRunning}
 use Rattle.machine_step.specs.Changes.{begun, done, frames_at, frames_of, is_begin, planned}
 

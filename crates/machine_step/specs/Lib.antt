@@ -1,8 +1,6 @@
-pub mod Bits
 pub mod Stepping
 pub mod Built
 pub mod SmallForms
-pub mod Agreement
 pub mod Changes
 pub mod Lines
 pub mod Owned

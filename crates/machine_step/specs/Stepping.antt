@@ -11,7 +11,7 @@ use Rattle.machine_model.specs.Frames.{After}
 use Rattle.machine_model.specs.Steps.{step, Same, Went, Fails, TooLarge}
 use Rattle.machine_step.specs.declared.fault.StepFault.{StepFault}
 use Rattle.machine_step.specs.declared.fault.StepFault.TheVariants.{IntTooLarge, OutOfMemory}
-use Rattle.machine_step.specs.Bits.{has_128_bits}
+use Rattle.machine_values.specs.Bits.{has_128_bits}
 
 -- what thread t shows of an item that left this
 abbrev pub trace_of : ℕ → After → Trace

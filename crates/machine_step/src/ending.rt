@@ -3,15 +3,15 @@ ghost use Rattle.std.specs.Prelude.{◌≡◌, Bool, [], IfSome, slice_get};
 ghost use Rattle.std.specs.List.{list_any};
 ghost use Rattle.py_syntax.specs.declared.Value.TheVariants.{Nil};
 ghost use Rattle.machine_model.specs.Calls.{leave};
-ghost use Rattle.machine_step.specs.Agreement.{Agrees};
-ghost use Rattle.machine_step.specs.Bits.{has_128_bits};
+ghost use Rattle.machine_values.specs.Agreement.{Agrees};
+ghost use Rattle.machine_values.specs.Bits.{has_128_bits};
 ghost use Rattle.machine_step.specs.Built.{HasNoConditions};
 ghost use Rattle.machine_step.specs.Owned as owned;
 ghost use Rattle.machine_step.specs.Changes.{begun, done};
 
 use crate::change::Deed;
-use crate::stop::Stop;
 use machine_model::{Frame, Halt, Object};
+use machine_values::Stop;
 use py_base::Kind;
 use py_syntax::Module;
 

@@ -6,18 +6,16 @@ ghost use Rattle.machine_model.specs.declared.state.ThreadState.{ThreadState as 
 ghost use Rattle.machine_model.specs.Results.{Got, then_do};
 ghost use Rattle.machine_model.specs.Frames.{pop_value, local_at, stored, stays};
 ghost use Rattle.machine_model.specs.Items.{act, applies_binary, applies_unary, checks, prints, pushes, tests_not_nil, with_stack};
-ghost use Rattle.machine_step.specs.Agreement.{Agrees};
-ghost use Rattle.machine_step.specs.Bits.{has_128_bits};
+ghost use Rattle.machine_values.specs.Agreement.{Agrees};
+ghost use Rattle.machine_values.specs.Bits.{has_128_bits};
 ghost use Rattle.machine_step.specs.Built.{HasNoConditions, IsBuiltItem};
 ghost use Rattle.machine_step.specs.Changes.{begun, done};
 
 use crate::change::Deed;
 use crate::ending::end;
-use crate::operators::{binary, test_divisor, unary};
 use crate::print::print;
-use crate::stop::Stop;
-use crate::values::{local, top_truth, value_at};
 use machine_model::{Frame, Halt, Object};
+use machine_values::{Stop, binary, local, test_divisor, top_truth, unary, value_at};
 use py_base::{Kind, Place};
 use py_syntax::{Item, Module, Value};
 use std::alloc::Global;

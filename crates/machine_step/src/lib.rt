@@ -8,20 +8,13 @@ mod fault;
 mod forms;
 mod items;
 mod laws;
-mod numbers;
 mod one_step;
-mod operators;
 mod plan;
 mod print;
-mod stop;
 mod stuck;
-mod values;
 
 pub use fault::StepFault;
 pub use forms::is_built;
 pub use laws::small_modules_are_built;
 pub use one_step::step;
 pub use stuck::{all_ended, can_move, is_stuck};
-
-#[cfg(test)]
-mod tests;

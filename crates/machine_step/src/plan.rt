@@ -3,15 +3,15 @@ ghost use Rattle.std.specs.Prelude.{◌≡◌, List, [], true, slice_get, IfSome
 ghost use Rattle.machine_model.specs.declared.state.ThreadState.{ThreadState as Thread};
 ghost use Rattle.machine_model.specs.declared.state.State.{State as Machine};
 ghost use Rattle.machine_model.specs.Steps.{control_step, thread_step, state_step};
-ghost use Rattle.machine_step.specs.Agreement.{Agrees};
-ghost use Rattle.machine_step.specs.Bits.{has_128_bits};
+ghost use Rattle.machine_values.specs.Agreement.{Agrees};
+ghost use Rattle.machine_values.specs.Bits.{has_128_bits};
 ghost use Rattle.machine_step.specs.Built.{IsBuilt, IsBuiltFrame, IsBuiltThread, IsRunning};
 ghost use Rattle.machine_step.specs.Changes.{begun, done, frames_at, is_begin, planned};
 
 use crate::change::Plan;
 use crate::items::deed_of;
-use crate::stop::Stop;
 use machine_model::{Frame, Halt, Object, State, ThreadState};
+use machine_values::Stop;
 use py_syntax::{Item, Module, Value};
 use std::alloc::Global;
 

@@ -5,14 +5,13 @@ ghost use Rattle.machine_model.specs.Frames.{pop_arguments};
 ghost use Rattle.machine_model.specs.Items.{prints};
 ghost use Rattle.machine_model.specs.Printing as printing;
 ghost use Rattle.py_syntax.specs.StmtItems as items;
-ghost use Rattle.machine_step.specs.Agreement.{Agrees};
+ghost use Rattle.machine_values.specs.Agreement.{Agrees};
 ghost use Rattle.machine_step.specs.Lines.{further};
 ghost use Rattle.machine_step.specs.Changes.{begun, done};
 
 use crate::change::Deed;
-use crate::stop::Stop;
-use crate::values::value_at;
 use machine_model::{Frame, Stack};
+use machine_values::{Stop, value_at};
 use py_base::{OutOfMemory, Text};
 use py_syntax::{PrintArg, Value};
 use std::alloc::Global;

@@ -3,7 +3,7 @@ use Rattle.std.specs.Prelude.{◌≡◌, ◌≤◌, ◌<◌, ◌++◌, ℕ, List
 use Rattle.py_syntax.specs.declared.Module.{Module}
 use Rattle.py_front.specs.Answers.{IsFront}
 use Rattle.py_front.specs.declared.FrontFault.{FrontFault}
-use Rattle.machine_step.specs.Bits.{has_128_bits}
+use Rattle.machine_values.specs.Bits.{has_128_bits}
 use Rattle.schedule_runner.specs.declared.schedule.ScheduleLine.{ScheduleLine}
 use Rattle.schedule_runner.specs.declared.schedule.TheConstants.{STEP_LIMIT}
 use Rattle.schedule_runner.specs.declared.ending.RunEnd.{RunEnd}

@@ -15,7 +15,7 @@ use Rattle.machine_model.specs.declared.moved.Moved.{Moved}
 use Rattle.machine_model.specs.declared.moved.Moved.TheVariants as moved
 use Rattle.machine_model.specs.Frames.{After}
 use Rattle.machine_model.specs.Steps.{Stepped, Same, Went, Fails, TooLarge, step, one_of}
-use Rattle.machine_step.specs.Bits.{has_128_bits}
+use Rattle.machine_values.specs.Bits.{has_128_bits}
 use Rattle.machine_step.specs.Stepping.{IsStep, trace_of}
 use Rattle.schedule_runner.specs.declared.schedule.ScheduleLine.{ScheduleLine}
 use Rattle.schedule_runner.specs.declared.schedule.ScheduleLine.TheVariants.{Fair}

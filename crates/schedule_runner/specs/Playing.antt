@@ -5,7 +5,7 @@ use Rattle.io_edge.specs.Outside.{AppendsPart}
 use Rattle.py_syntax.specs.declared.Module.{Module}
 use Rattle.machine_model.specs.declared.state.State.{State}
 use Rattle.machine_model.specs.Steps.{one_of}
-use Rattle.machine_step.specs.Bits.{has_128_bits}
+use Rattle.machine_values.specs.Bits.{has_128_bits}
 use Rattle.schedule_runner.specs.declared.grant.Grant.{Grant}
 use Rattle.schedule_runner.specs.declared.ending.RunEnd.{RunEnd}
 use Rattle.schedule_runner.specs.declared.ending.RunFault.{RunFault}

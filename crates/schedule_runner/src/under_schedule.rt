@@ -2,7 +2,7 @@
 ghost use Rattle.std.specs.Prelude.{◌≡◌, false, None, IfOk, IfErr, OnOk, OnErr, IsErrOf};
 ghost use Rattle.std.specs.Io.KnownBytes.{Appends};
 ghost use Rattle.io_edge.specs.Outside.{AppendsPart, Rose};
-ghost use Rattle.machine_step.specs.Bits.{has_128_bits};
+ghost use Rattle.machine_values.specs.Bits.{has_128_bits};
 ghost use Rattle.machine_step.specs.Built.{IsBuilt};
 ghost use Rattle.machine_step.specs.SmallForms.{HasSmallForms};
 ghost use Rattle.schedule_runner.specs.Output.{output, output_of, grants_of, end_in, text_of, unfinished};

@@ -1,6 +1,6 @@
 use Rattle.std.proofs.Common.{ap, sym, ◌∙◌}
 use Rattle.py_syntax.specs.declared.Item.TheVariants as item
-use Rattle.machine_step.specs.Bits.{has_128_bits}
+use Rattle.machine_values.specs.Bits.{has_128_bits}
 use Rattle.machine_step.specs.Changes.{begun}
 use Rattle.machine_step.proofs.Plans.{act_agrees}
 use Rattle.machine_step.proofs.items.deed_of.Goals as goal

@@ -1,6 +1,6 @@
 use Rattle.std.proofs.Common.{◌≡◌, Some, true, false, slice_get, rules, ◌∙◌}
 use Rattle.std.specs.Prelude.{is_none}
-use Rattle.machine_step.specs.Bits.{has_128_bits}
+use Rattle.machine_values.specs.Bits.{has_128_bits}
 use Rattle.machine_step.specs.Changes.{begun, done}
 use Rattle.machine_step.proofs.Plans.{first_item, fault_agrees}
 use Rattle.machine_step.proofs.plan.first_plan.Goals as goal

@@ -1,5 +1,5 @@
 use Rattle.std.proofs.Common.{◌≡◌, Some, false, slice_get, sym, rules, ◌∙◌}
-use Rattle.machine_step.specs.Bits.{has_128_bits}
+use Rattle.machine_values.specs.Bits.{has_128_bits}
 use Rattle.machine_step.specs.Changes.{begun, done}
 use Rattle.machine_step.proofs.Plans.{plain_item, fault_agrees}
 use Rattle.machine_step.proofs.plan.frame_plan.Goals as goal

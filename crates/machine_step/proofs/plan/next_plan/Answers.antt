@@ -1,6 +1,6 @@
 use Rattle.std.proofs.Common.{◌≡◌, Some, slice_get, sym, subst, rules}
-use Rattle.machine_step.specs.Bits.{has_128_bits}
-use Rattle.machine_step.specs.Agreement.{Agrees}
+use Rattle.machine_values.specs.Bits.{has_128_bits}
+use Rattle.machine_values.specs.Agreement.{Agrees}
 use Rattle.machine_model.specs.Steps.{thread_step}
 use Rattle.machine_step.specs.Changes.{planned}
 use Rattle.machine_step.proofs.Plans.{state_agrees}

@@ -1,5 +1,5 @@
 use Rattle.std.proofs.Common.{◌≡◌, Some, false, slice_get, rules}
-use Rattle.machine_step.specs.Bits.{has_128_bits}
+use Rattle.machine_values.specs.Bits.{has_128_bits}
 use Rattle.machine_step.proofs.Plans.{running_frame, thread_agrees}
 use Rattle.machine_step.proofs.plan.thread_plan.Goals as goal
 

@@ -11,8 +11,8 @@ pub enum Stop {
 
 impl From<OutOfMemory> for Stop {
     ghost use Rattle.std.specs.Prelude.{◌≡◌};
-    ghost use Rattle.machine_step.specs.declared.stop.Stop.{Stop as Reason};
-    ghost use Rattle.machine_step.specs.declared.stop.Stop.TheVariants as reason;
+    ghost use Rattle.machine_values.specs.declared.stop.Stop.{Stop as Reason};
+    ghost use Rattle.machine_values.specs.declared.stop.Stop.TheVariants as reason;
 
     ghost from_gives = { λ _ e. e ≡ reason.OutOfMemory };
 

@@ -1,9 +1,8 @@
 // What no clause says: that steps of small modules are taken, and how many there are.
 
-use super::*;
-use crate::numbers::on_numbers;
-use crate::stop::Stop;
 use machine_model::{Halt, Moved, State, Trace, start};
+use machine_step::{can_move, is_built, step};
+use machine_values::{Stop, on_numbers};
 use py_base::{Place, Text};
 use py_syntax::{Expr, ExprForm, Method, Module, PrintArg, Stmt, StmtForm, Ty, Value};
 use sqlite_items::{Boxed, Items};

@@ -1,11 +1,12 @@
 // Operators.
-ghost use Rattle.std.specs.Prelude.{not, if◌then◌else◌};
+ghost use Rattle.std.specs.Prelude.{◌≢◌, IfErr, not, if◌then◌else◌};
 ghost use Rattle.machine_model.specs.Results.{sized, tested, then_do};
 ghost use Rattle.machine_model.specs.Frames.{operand};
 ghost use Rattle.machine_model.specs.Operators as operators;
 ghost use Rattle.py_base.specs.declared.Kind.TheVariants.{ZeroDivisor};
-ghost use Rattle.machine_step.specs.Agreement.{Agrees};
-ghost use Rattle.machine_step.specs.Bits.{has_128_bits};
+ghost use Rattle.machine_values.specs.declared.stop.Stop.TheVariants.{OutOfMemory};
+ghost use Rattle.machine_values.specs.Agreement.{Agrees};
+ghost use Rattle.machine_values.specs.Bits.{has_128_bits};
 
 use crate::numbers::{difference, on_numbers};
 use crate::stop::Stop;
@@ -15,7 +16,8 @@ use py_syntax::Value;
 
 // An operator on two truth values.
 fn on_truths(p: Place, key: u16, a: bool, b: bool) -> Result<Value, Stop>
-    ensures { Agrees (then_do (operand (operators.on_truths key a b)) (sized has_128_bits p)) result (λ v. v) }
+    ensures agrees { Agrees (then_do (operand (operators.on_truths key a b)) (sized has_128_bits p)) result (λ v. v) }
+    ensures halts { IfErr result (λ e. e ≢ OutOfMemory) }
 {
     match key {
         13 => Ok(Value::Truth(a == b)),
@@ -26,7 +28,8 @@ fn on_truths(p: Place, key: u16, a: bool, b: bool) -> Result<Value, Stop>
 
 // An operator on two references that are one or not.
 fn on_references(p: Place, key: u16, same: bool) -> Result<Value, Stop>
-    ensures { Agrees (then_do (operand (operators.on_references key same)) (sized has_128_bits p)) result (λ v. v) }
+    ensures agrees { Agrees (then_do (operand (operators.on_references key same)) (sized has_128_bits p)) result (λ v. v) }
+    ensures halts { IfErr result (λ e. e ≢ OutOfMemory) }
 {
     match key {
         15 => Ok(Value::Truth(same)),
@@ -37,7 +40,8 @@ fn on_references(p: Place, key: u16, same: bool) -> Result<Value, Stop>
 
 /// A prefix operator on a value, whose number must fit.
 pub fn unary(p: Place, key: u16, a: Value) -> Result<Value, Stop>
-    ensures { Agrees (then_do (operand (operators.unary key a)) (sized has_128_bits p)) result (λ v. v) }
+    ensures agrees { Agrees (then_do (operand (operators.unary key a)) (sized has_128_bits p)) result (λ v. v) }
+    ensures halts { IfErr result (λ e. e ≢ OutOfMemory) }
 {
     match a {
         Value::Num(x) if key == 6 => difference(p, 0, x),
@@ -48,7 +52,8 @@ pub fn unary(p: Place, key: u16, a: Value) -> Result<Value, Stop>
 
 /// An operator between two values, whose number must fit.
 pub fn binary(p: Place, key: u16, a: Value, b: Value) -> Result<Value, Stop>
-    ensures { Agrees (then_do (operand (operators.binary key a b)) (sized has_128_bits p)) result (λ v. v) }
+    ensures agrees { Agrees (then_do (operand (operators.binary key a b)) (sized has_128_bits p)) result (λ v. v) }
+    ensures halts { IfErr result (λ e. e ≢ OutOfMemory) }
 {
     match (a, b) {
         (Value::Num(x), Value::Num(y)) => on_numbers(p, key, x, y),

@@ -1,7 +1,7 @@
 // What is read of the value stack and of the locals.
 ghost use Rattle.std.specs.Prelude.{◌+◌, drop, length, if◌then◌else◌, nat_lt};
 ghost use Rattle.machine_model.specs.Frames.{pop_value, pop_truth, local_at};
-ghost use Rattle.machine_step.specs.Agreement.{Agrees};
+ghost use Rattle.machine_values.specs.Agreement.{Agrees};
 
 use crate::stop::Stop;
 use machine_model::{Halt, Stack};

@@ -1,11 +1,12 @@
 // Operators on numbers of 128 bits. What leaves them is too large.
-ghost use Rattle.std.specs.Prelude.{◌≡◌, ◌≢◌, pos, negsuc, ◌+ℤ◌, ◌-ℤ◌, ◌*ℤ◌, int_div, int_rem, if◌then◌else◌};
+ghost use Rattle.std.specs.Prelude.{◌≡◌, ◌≢◌, pos, IfErr, negsuc, ◌+ℤ◌, ◌-ℤ◌, ◌*ℤ◌, int_div, int_rem, if◌then◌else◌};
 ghost use Rattle.py_syntax.specs.declared.Value.TheVariants.{Num};
 ghost use Rattle.machine_model.specs.Results.{sized, then_do};
 ghost use Rattle.machine_model.specs.Frames.{operand};
 ghost use Rattle.machine_model.specs.Operators as operators;
-ghost use Rattle.machine_step.specs.Agreement.{Agrees};
-ghost use Rattle.machine_step.specs.Bits.{has_128_bits};
+ghost use Rattle.machine_values.specs.declared.stop.Stop.TheVariants.{OutOfMemory};
+ghost use Rattle.machine_values.specs.Agreement.{Agrees};
+ghost use Rattle.machine_values.specs.Bits.{has_128_bits};
 
 use crate::stop::Stop;
 use machine_model::Halt;
@@ -13,7 +14,8 @@ use py_base::Place;
 use py_syntax::Value;
 
 fn sum(p: Place, x: i128, y: i128) -> Result<Value, Stop>
-    ensures { Agrees (sized has_128_bits p (Num (x +ℤ y))) result (λ v. v) }
+    ensures agrees { Agrees (sized has_128_bits p (Num (x +ℤ y))) result (λ v. v) }
+    ensures halts { IfErr result (λ e. e ≢ OutOfMemory) }
 {
     match x.checked_add(y) {
         Some(z) => Ok(Value::Num(z)),
@@ -23,7 +25,8 @@ fn sum(p: Place, x: i128, y: i128) -> Result<Value, Stop>
 
 /// `x - y`
 pub fn difference(p: Place, x: i128, y: i128) -> Result<Value, Stop>
-    ensures { Agrees (sized has_128_bits p (Num (x -ℤ y))) result (λ v. v) }
+    ensures agrees { Agrees (sized has_128_bits p (Num (x -ℤ y))) result (λ v. v) }
+    ensures halts { IfErr result (λ e. e ≢ OutOfMemory) }
 {
     match x.checked_sub(y) {
         Some(z) => Ok(Value::Num(z)),
@@ -32,7 +35,8 @@ pub fn difference(p: Place, x: i128, y: i128) -> Result<Value, Stop>
 }
 
 fn product(p: Place, x: i128, y: i128) -> Result<Value, Stop>
-    ensures { Agrees (sized has_128_bits p (Num (x *ℤ y))) result (λ v. v) }
+    ensures agrees { Agrees (sized has_128_bits p (Num (x *ℤ y))) result (λ v. v) }
+    ensures halts { IfErr result (λ e. e ≢ OutOfMemory) }
 {
     match x.checked_mul(y) {
         Some(z) => Ok(Value::Num(z)),
@@ -70,7 +74,8 @@ fn left_over(x: i128, y: i128) -> i128
 #[tactic(auto, using(crate::proofs::Floors::floor_div_up, crate::proofs::Floors::floor_div_there, crate::proofs::Floors::sized_there))]
 fn quotient(p: Place, x: i128, y: i128) -> Result<Value, Stop>
     requires { y ≢ pos 0 }
-    ensures { Agrees (sized has_128_bits p (Num (operators.floor_div x y))) result (λ v. v) }
+    ensures agrees { Agrees (sized has_128_bits p (Num (operators.floor_div x y))) result (λ v. v) }
+    ensures halts { IfErr result (λ e. e ≢ OutOfMemory) }
 {
     if y == -1 {
         return difference(p, 0, x);
@@ -86,7 +91,8 @@ fn quotient(p: Place, x: i128, y: i128) -> Result<Value, Stop>
 #[tactic(auto, using(crate::proofs::Floors::floor_mod_up, crate::proofs::Floors::floor_mod_there, crate::proofs::Floors::sized_there))]
 fn modulus(p: Place, x: i128, y: i128) -> Result<Value, Stop>
     requires { y ≢ pos 0 }
-    ensures { Agrees (sized has_128_bits p (Num (operators.floor_mod x y))) result (λ v. v) }
+    ensures agrees { Agrees (sized has_128_bits p (Num (operators.floor_mod x y))) result (λ v. v) }
+    ensures halts { IfErr result (λ e. e ≢ OutOfMemory) }
 {
     if y == -1 {
         return Ok(Value::Num(0));
@@ -101,7 +107,8 @@ fn modulus(p: Place, x: i128, y: i128) -> Result<Value, Stop>
 
 /// An operator on two numbers.
 pub fn on_numbers(p: Place, key: u16, x: i128, y: i128) -> Result<Value, Stop>
-    ensures { Agrees (then_do (operand (operators.on_numbers key x y)) (sized has_128_bits p)) result (λ v. v) }
+    ensures agrees { Agrees (then_do (operand (operators.on_numbers key x y)) (sized has_128_bits p)) result (λ v. v) }
+    ensures halts { IfErr result (λ e. e ≢ OutOfMemory) }
 {
     match key {
         1 => sum(p, x, y),

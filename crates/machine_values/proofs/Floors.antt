@@ -10,9 +10,9 @@ use Rattle.machine_model.specs.Results.{Got, Stops, then_do, sized}
 use Rattle.machine_model.specs.Frames.{operand}
 use Rattle.machine_model.specs.declared.halt.Halt.TheVariants.{Wide}
 use Rattle.machine_model.specs.Operators.{int_eq, is_rounded_up, floor_div, floor_mod, on_numbers, binary}
-use Rattle.machine_step.specs.declared.stop.Stop.{Stop}
-use Rattle.machine_step.specs.Agreement.{Agrees}
-use Rattle.machine_step.specs.Bits.{has_128_bits}
+use Rattle.machine_values.specs.declared.stop.Stop.{Stop}
+use Rattle.machine_values.specs.Agreement.{Agrees}
+use Rattle.machine_values.specs.Bits.{has_128_bits}
 
 pub floor_div_up : (x y : ℤ) → is_rounded_up x y ≡ true → floor_div x y ≡ int_div x y -ℤ pos 1
 floor_div_up x y up = ap (λ b. if b then int_div x y -ℤ pos 1 else int_div x y) up
