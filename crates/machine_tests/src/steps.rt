@@ -1,7 +1,7 @@
 // What no clause says: that steps of small modules are taken, and how many there are.
 
 use machine_model::{Halt, Moved, State, Trace, start};
-use machine_step::{can_move, is_built, step};
+use machine_step::{all_ended, can_move, is_built, is_stuck, step};
 use machine_values::{Stop, on_numbers};
 use py_base::{Place, Text};
 use py_syntax::{Expr, ExprForm, Method, Module, PrintArg, Stmt, StmtForm, Ty, Value};
