@@ -1,0 +1,4 @@
+mod Blocks
+mod Cases
+mod Reaching
+mod Rounds
