@@ -5,17 +5,26 @@ use Rattle.type_base.specs.declared.Fault.{Fault}
 use Rattle.type_base.specs.declared.Rank.{Rank}
 use Rattle.type_base.specs.declared.Rank.TheVariants as ranks
 
--- a rule is at most 255
-abbrev pub number_of : Rank → ℕ
-number_of (ranks.Mistyped rule) = rule
-number_of ranks.BoolAsInt = 256
-number_of ranks.Unassigned = 257
+-- Mistyped, BoolAsInt and Unassigned, in this order
+abbrev pub sort_of : Rank → ℕ
+sort_of (ranks.Mistyped rule) = 0
+sort_of ranks.BoolAsInt = 1
+sort_of ranks.Unassigned = 2
 
-abbrev pub is_before : Place → ℕ → Place → ℕ → Bool
-is_before p i q k = nat_lt p.line q.line || (nat_eq p.line q.line && (nat_lt p.col q.col || (nat_eq p.col q.col && nat_lt i k)))
+abbrev pub rule_of : Rank → ℕ
+rule_of (ranks.Mistyped rule) = rule
+rule_of ranks.BoolAsInt = 0
+rule_of ranks.Unassigned = 0
+
+-- by two numbers
+abbrev pub is_less : ℕ → ℕ → ℕ → ℕ → Bool
+is_less i k j n = nat_lt i j || (nat_eq i j && nat_lt k n)
+
+abbrev pub is_before : Place → Rank → Place → Rank → Bool
+is_before p r q s = nat_lt p.line q.line || (nat_eq p.line q.line && (nat_lt p.col q.col || (nat_eq p.col q.col && is_less (sort_of r) (rule_of r) (sort_of s) (rule_of s))))
 
 abbrev pub comes_before : Fault → Fault → Bool
-comes_before f g = is_before f.place (number_of f.rank) g.place (number_of g.rank)
+comes_before f g = is_before f.place f.rank g.place g.rank
 
 abbrev pub IsAmong : Fault → List Fault → Type 0
 IsAmong f [] = ⊥

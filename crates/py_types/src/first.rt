@@ -1,16 +1,25 @@
 // The first of some faults.
 ghost use Rattle.std.specs.Prelude.{◌≡◌};
-ghost use Rattle.py_types.specs.Order.{number_of, comes_before, sooner, first_of};
+ghost use Rattle.py_types.specs.Order.{sort_of, rule_of, comes_before, sooner, first_of};
 
 use type_base::{Fault, Rank};
 
-fn number_of(rank: Rank) -> u16
-    ensures { result ≡ number_of rank }
+fn sort_of(rank: Rank) -> u8
+    ensures { result ≡ sort_of rank }
 {
     match rank {
-        Rank::Mistyped(rule) => u16::from(rule),
-        Rank::BoolAsInt => 256,
-        Rank::Unassigned => 257,
+        Rank::Mistyped(_) => 0,
+        Rank::BoolAsInt => 1,
+        Rank::Unassigned => 2,
+    }
+}
+
+fn rule_of(rank: Rank) -> u8
+    ensures { result ≡ rule_of rank }
+{
+    match rank {
+        Rank::Mistyped(rule) => rule,
+        _ => 0,
     }
 }
 
@@ -25,7 +34,12 @@ fn comes_before(one: Fault, other: Fault) -> bool
     if here.col != there.col {
         return here.col < there.col;
     }
-    number_of(one.rank) < number_of(other.rank)
+    let sort = sort_of(one.rank);
+    let other_sort = sort_of(other.rank);
+    if sort != other_sort {
+        return sort < other_sort;
+    }
+    rule_of(one.rank) < rule_of(other.rank)
 }
 
 fn sooner(best: Option<Fault>, fault: Fault) -> Fault

@@ -8,11 +8,11 @@ use Rattle.raw_syntax.specs.declared.Raw.{Raw}
 use Rattle.class_table.specs.declared.Classes.{Classes}
 use Rattle.type_base.specs.declared.Fault.{Fault}
 use Rattle.type_forms.specs.Signatures.{head_faults}
-use Rattle.type_forms.specs.Settings.{setting_faults}
+use Rattle.type_ways.specs.Settings.{setting_faults}
 use Rattle.type_forms.specs.Jumps.{jump_faults}
-use Rattle.type_forms.specs.Ends.{end_faults}
+use Rattle.type_ways.specs.Ends.{end_faults}
 use Rattle.type_forms.specs.Statements.{statement_faults}
-use Rattle.type_forms.specs.Ways.{unassigned_faults}
+use Rattle.type_ways.specs.Ways.{unassigned_faults}
 
 -- the head of a function, and the annotations of its locals
 unfoldable pub declaring_faults : Classes → List RawItem → Option ℕ → RawFunc → List Fault

@@ -1,9 +1,5 @@
-pub mod Sights
 pub mod Signatures
-pub mod Settings
 pub mod Jumps
-pub mod Ends
 pub mod Supers
 pub mod Statements
-pub mod Ways
 pub mod Forms

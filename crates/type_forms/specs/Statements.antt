@@ -17,7 +17,7 @@ use Rattle.raw_syntax.specs.declared.RawItem.{RawItem}
 use Rattle.py_syntax.specs.declared.Class.{Class}
 use Rattle.class_table.specs.declared.Classes.{Classes}
 use Rattle.class_table.specs.Names.{init_name}
-use Rattle.class_table.specs.Shapes.{Shape, name, field, call, shape, is_contract}
+use Rattle.class_table.specs.Shapes.{Shape, name, field, shape, is_contract}
 use Rattle.class_table.specs.Bases.{is_init}
 use Rattle.class_table.specs.Declaring.{statement_is, behind_docstring}
 use Rattle.class_table.specs.Faults.{is_alone}
@@ -27,7 +27,7 @@ use Rattle.type_base.specs.Faults.{fault, fault_if, joined}
 use Rattle.type_base.specs.Types.{exception_class}
 use Rattle.type_base.specs.Members.{method_above}
 use Rattle.type_base.specs.Locals.{is_parameter, is_own_name, locals}
-use Rattle.type_forms.specs.Sights.{Mention, sight, bare_place}
+use Rattle.type_ways.specs.Sights.{Mention, sight, bare_place, is_any_call}
 use Rattle.type_forms.specs.Signatures.{annotation_fault}
 use Rattle.type_forms.specs.Supers.{super_faults, allowed_super_faults}
 
@@ -57,10 +57,6 @@ abbrev pub target_fault : List RawParam → Bool → RawExpr → List Fault
 target_fault params outside e = shape_fault params outside (bare_place e) (shape e)
 
 -- Rule 21.
-abbrev pub is_any_call : Shape → Bool
-is_any_call (call s count) = true
-is_any_call s = false
-
 abbrev pub alone_fault : RawExpr → List Fault
 alone_fault e = fault_if (not (is_any_call (shape e))) (bare_place e) (ranks.Mistyped 21)
 

@@ -7,9 +7,7 @@ ghost use Rattle.type_base.specs.Faults.{joined};
 ghost use Rattle.type_forms.specs.Statements.{alone_fault, super_faults_if, expression_faults, return_faults, assignment_faults, declaration_faults, in_block, standing, part_standing, handler_standing, left_behind, body_faults, has_init_above, fields_made, prefix_length, statement_faults};
 
 use crate::head::note_annotation;
-use crate::mark::is_alone;
 use crate::over::is_init;
-use crate::sight::{bare_place, behind_docstring, is_any_call, is_contract_statement};
 use crate::super_use::{note_allowed, note_supers};
 use crate::target::{note_class, note_declared, note_target};
 use class_table::Classes;
@@ -20,6 +18,7 @@ use raw_syntax::{
 use sqlite_items::Items;
 use std::alloc::Global;
 use type_base::{Fault, Rank, locals, method_above, note_if};
+use type_ways::{bare_place, behind_docstring, is_alone, is_any_call, is_contract_statement};
 
 fn note_alone(e: &RawExpr, found: &mut Items<Fault>) -> Result<(), OutOfMemory>
     ensures { OnOk result (found.new ≡ found.old ++ alone_fault e.now) }

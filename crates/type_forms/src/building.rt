@@ -3,17 +3,15 @@ ghost use Rattle.std.specs.Prelude.{◌≡◌, ◌<◌, ◌≤◌, ◌+◌, ◌^
 ghost use Rattle.type_forms.specs.Forms.{declaring_faults, leaving_faults, running_faults, function_faults, faults_behind, form_faults};
 
 use crate::body::note_statements;
-use crate::ending::note_end;
 use crate::head::note_head;
 use crate::jump::note_all_jumps;
-use crate::set_names::note_settings;
-use crate::way_on::note_unassigned;
 use class_table::Classes;
 use py_base::OutOfMemory;
 use raw_syntax::{Raw, RawFunc, RawItem};
 use sqlite_items::Items;
 use std::alloc::Global;
 use type_base::Fault;
+use type_ways::{note_end, note_settings, note_unassigned};
 
 #[tactic(auto, unfolding(crate::specs::Forms::declaring_faults))]
 fn note_declaring(

@@ -3,7 +3,6 @@ ghost use Rattle.std.specs.Prelude.{◌≡◌, ◌<◌, ◌≤◌, ◌^◌, ◌+
 ghost use Rattle.type_base.specs.Types.{ty_of, result_of};
 ghost use Rattle.type_forms.specs.Signatures.{annotation_fault, annotation_faults, parameter_type_fault, result_fault, type_faults, is_bare_self, first_fault, untyped_fault, repeated_fault, repeated_faults, parameter_faults, head_faults};
 
-use crate::lists::split;
 use crate::mark::note_marks;
 use crate::over::note_override;
 use class_table::Classes;
@@ -11,6 +10,7 @@ use py_base::{OutOfMemory, Place};
 use raw_syntax::{RawFunc, RawItem, RawParam, RawTy};
 use sqlite_items::Items;
 use type_base::{Fault, Rank, is_parameter, note_if, result_of, ty_of};
+use type_ways::split;
 
 /// Adds the fault of an annotation that is no type.
 pub fn note_annotation(

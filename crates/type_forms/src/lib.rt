@@ -5,19 +5,11 @@
 
 mod body;
 mod building;
-mod ending;
 mod head;
 mod jump;
-mod lists;
 mod mark;
 mod over;
-mod reading;
-mod set_names;
-mod setting;
-mod sight;
 mod super_use;
 mod target;
-mod way;
-mod way_on;
 
 pub use building::form_faults;

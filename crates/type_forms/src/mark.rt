@@ -7,7 +7,6 @@ ghost use Rattle.type_base.specs.Types.{locked_by};
 ghost use Rattle.type_forms.specs.Signatures.{is_reference, has_reference, returns, is_one_return, given_parameters, is_predicate_form, mark_fits, marks_fit, fits_marks, mark_faults};
 
 use crate::head::behind_first;
-use crate::lists::split;
 use crate::over::written_type;
 use class_table::Classes;
 use py_base::{OutOfMemory, Text};
@@ -15,6 +14,7 @@ use py_syntax::Ty;
 use raw_syntax::{RawFunc, RawParam, RawStmt, RawStmtForm, RawTy};
 use sqlite_items::Items;
 use type_base::{Fault, Rank, locked_by, note_if};
+use type_ways::{is_alone, split};
 
 fn is_reference(ty: Option<Ty>) -> bool
     ensures { result ≡ is_reference ty }
@@ -65,19 +65,6 @@ fn is_one_return(body: &[RawStmt]) -> bool
     };
     match split(rest) {
         None => returns(first),
-        Some(_) => false,
-    }
-}
-
-/// Whether the type is this word alone.
-pub fn is_alone(ty: &RawTy, word: &[u8]) -> bool
-    ensures { result ≡ is_alone ty.now word.now }
-{
-    if ty.head.bytes() != word {
-        return false;
-    }
-    match ty.inner {
-        None => true,
         Some(_) => false,
     }
 }

@@ -4,13 +4,13 @@ ghost use Rattle.class_table.specs.Bases.{is_init};
 ghost use Rattle.type_forms.specs.Signatures.{type_sort, type_class, same_type, same_if_any, written_type, is_no_parameter, same_parameters, overrides_well, override_fault, override_faults};
 
 use crate::head::behind_first;
-use crate::lists::split;
 use class_table::Classes;
 use py_base::OutOfMemory;
 use py_syntax::Ty;
 use raw_syntax::{RawFunc, RawItem, RawParam};
 use sqlite_items::Items;
 use type_base::{Fault, Rank, method_above, note_if, result_of, ty_of};
+use type_ways::split;
 
 fn type_sort(ty: Ty) -> u8
     ensures { result ≡ type_sort ty }

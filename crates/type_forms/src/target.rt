@@ -3,16 +3,15 @@ ghost use Rattle.std.specs.Prelude.{◌≡◌, ◌<◌, ◌^◌, ◌++◌, ◌||
 ghost use Rattle.class_table.specs.Shapes.{shape};
 ghost use Rattle.type_base.specs.Types.{exception_class};
 ghost use Rattle.type_base.specs.Locals.{is_own_name};
-ghost use Rattle.type_forms.specs.Sights.{first_mention, sight, mention_in, bare_place};
+ghost use Rattle.type_ways.specs.Sights.{first_mention, sight, mention_in, bare_place};
 ghost use Rattle.type_forms.specs.Statements.{class_fault, mention_fault, declared_fault, shape_fault, target_fault};
 
-use crate::lists::split;
-use crate::sight::is_exsures;
 use class_table::Classes;
 use py_base::{OutOfMemory, Place, Text};
 use raw_syntax::{RawArgument, RawExpr, RawExprForm, RawParam};
 use sqlite_items::Items;
 use type_base::{Fault, Rank, exception_class, is_own_name, is_parameter, note_if};
+use type_ways::{is_exsures, split};
 
 /// Adds the fault of a target. `outside` says that a field may not stand there.
 pub fn note_target(

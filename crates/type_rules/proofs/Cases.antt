@@ -18,16 +18,16 @@ use Rattle.class_table.specs.declared.Classes.{Classes}
 use Rattle.type_base.specs.declared.Fault.{Fault}
 use Rattle.type_base.specs.declared.Rank.TheVariants as ranks
 use Rattle.type_base.specs.Faults.{fault}
-use Rattle.type_rules.specs.declared.position.Position.{Position}
-use Rattle.type_rules.specs.declared.position.Position.TheVariants as positions
-use Rattle.type_rules.specs.declared.signature.FunctionSort.{FunctionSort}
-use Rattle.type_rules.specs.declared.signature.FunctionSort.TheVariants as sorts
-use Rattle.type_rules.specs.declared.signature.Signature.{Signature}
-use Rattle.type_rules.specs.declared.signature.Variable.{Variable}
-use Rattle.type_rules.specs.declared.signature.Scope.{Scope}
-use Rattle.type_rules.specs.Positions.{Question}
+use Rattle.type_names.specs.declared.Position.{Position}
+use Rattle.type_names.specs.declared.Position.TheVariants as positions
+use Rattle.type_names.specs.declared.FunctionSort.{FunctionSort}
+use Rattle.type_names.specs.declared.FunctionSort.TheVariants as sorts
+use Rattle.type_names.specs.declared.Signature.{Signature}
+use Rattle.type_names.specs.declared.Variable.{Variable}
+use Rattle.type_names.specs.declared.Scope.{Scope}
+use Rattle.type_names.specs.Positions.{Question}
 use Rattle.type_rules.specs.Statements.{tested_faults, stored_faults, returned_faults, with_faults, augmented_faults}
-use Rattle.type_rules.specs.Expressions.{Link, Argument, alone, labelled, form_typing}
+use Rattle.type_terms.specs.Expressions.{Link, Argument, alone, labelled, form_typing}
 
 abbrev at : ℕ → Place
 at n = record { line = 1; col = n }

@@ -1,4 +1,1 @@
-pub mod Chains
-pub mod Behind
-pub mod Answering
 mod Cases

@@ -18,18 +18,19 @@ use Rattle.class_table.specs.declared.Classes.{Classes}
 use Rattle.class_table.specs.Declaring.{behind_docstring}
 use Rattle.type_base.specs.declared.Fault.{Fault}
 use Rattle.type_base.specs.Faults.{joined}
-use Rattle.type_rules.specs.declared.position.Position.{Position}
-use Rattle.type_rules.specs.declared.position.Position.TheVariants as positions
-use Rattle.type_rules.specs.declared.signature.FunctionSort.{FunctionSort}
-use Rattle.type_rules.specs.declared.signature.FunctionSort.TheVariants as sorts
-use Rattle.type_rules.specs.declared.signature.Signature.{Signature}
-use Rattle.type_rules.specs.declared.signature.Scope.{Scope}
-use Rattle.type_rules.specs.Fitting.{want_faults, wanted_faults}
-use Rattle.type_rules.specs.Operands.{arithmetic_faults}
-use Rattle.type_rules.specs.Calls.{lock_fault, value_type}
-use Rattle.type_rules.specs.Positions.{Typing}
-use Rattle.type_rules.specs.Expressions.{typing}
-use Rattle.type_rules.specs.Scopes.{function_sort, signatures, scope_of}
+use Rattle.type_names.specs.declared.Position.{Position}
+use Rattle.type_names.specs.declared.Position.TheVariants as positions
+use Rattle.type_names.specs.declared.FunctionSort.{FunctionSort}
+use Rattle.type_names.specs.declared.FunctionSort.TheVariants as sorts
+use Rattle.type_names.specs.declared.Signature.{Signature}
+use Rattle.type_names.specs.declared.Scope.{Scope}
+use Rattle.type_names.specs.Fitting.{want_faults, wanted_faults}
+use Rattle.type_names.specs.Operands.{arithmetic_faults}
+use Rattle.type_terms.specs.Calls.{lock_fault, value_type}
+use Rattle.type_names.specs.Positions.{Typing}
+use Rattle.type_terms.specs.Expressions.{typing}
+use Rattle.type_names.specs.Signatures.{function_sort, signatures}
+use Rattle.type_rules.specs.Scopes.{scope_of}
 
 -- a condition
 abbrev pub tested_faults : Classes → Typing → List Fault
@@ -90,7 +91,7 @@ returned_at sorts.Predicate = positions.Atom
 returned_at sorts.Pure = positions.Term
 
 -- a function, or a method of this class, behind its docstring
-abbrev pub function_faults : Classes → List Signature → Option ℕ → RawFunc → Faults
+unfoldable pub function_faults : Classes → List Signature → Option ℕ → RawFunc → Faults
 function_faults cs fs owner f = joined (map (statement_faults cs fs (scope_of cs fs owner f) (returned_at (function_sort f))) (behind_docstring f.body))
 
 -- the methods of the class of number k

@@ -1,25 +1,14 @@
-//! The typing rules that speak of the types of expressions: from the tree of a text and its classes to their faults.
+//! The typing rules that speak of the types of expressions: from the tree of a text and its classes to their faults,
+//! the types of expressions and the locals of methods.
 #![tactic(auto)]
 
-mod arguments;
-mod asking;
-mod calls;
-mod contracts;
-mod expressions;
-mod fitting;
 mod functions;
-mod links;
+mod listing;
 mod locals;
-mod meaning;
-mod names;
-mod operands;
-mod position;
-mod reading;
-mod scopes;
-mod signature;
+mod outcome;
 mod statements;
-mod steps;
-mod threads;
-mod wants;
 
-pub use functions::rule_faults;
+pub use functions::findings_of;
+pub use locals::scope_of;
+pub use outcome::Findings;
+pub use statements::note_statement;

@@ -3,12 +3,6 @@ ghost use Rattle.std.specs.Prelude.{◌≡◌, ◌<◌, ◌^◌, length, map, op
 ghost use Rattle.class_table.specs.Shapes.{shape};
 ghost use Rattle.type_rules.specs.Scopes.{with_variable, name_in, with_named, with_target, in_turn, assigned_type, locals_of, part_locals, handler_locals, scope_of};
 
-use crate::expressions::type_expr;
-use crate::names::is_hidden;
-use crate::position::Position;
-use crate::scopes::parameters_scope;
-use crate::signature::{Scope, Signature, Variable};
-use crate::wants::value_type;
 use class_table::Classes;
 use py_base::{OutOfMemory, Text};
 use py_syntax::Ty;
@@ -16,6 +10,8 @@ use raw_syntax::{RawElif, RawExpr, RawExprForm, RawFunc, RawHandler, RawStmt, Ra
 use sqlite_items::Items;
 use std::alloc::Global;
 use type_base::ty_of;
+use type_names::{Position, Scope, Signature, Variable, is_hidden, parameters_scope};
+use type_terms::{type_expr, value_type};
 
 fn with_variable(
     alloc: Global,
@@ -67,7 +63,8 @@ fn assigned_type(
     requires { length classes.now.list < 2 ^ 32 }
     ensures { IfOk result (λ ty. ty ≡ assigned_type classes.now functions.now scope.now e.now) }
 {
-    let mut unused = Items::new(alloc);
+    let mut faults = Items::new(alloc);
+    let mut types = Items::new(alloc);
     let worth = type_expr(
         e,
         alloc,
@@ -75,7 +72,8 @@ fn assigned_type(
         functions,
         scope,
         Position::Value,
-        &mut unused,
+        &mut faults,
+        &mut types,
     )?;
     Ok(value_type(worth.ty))
 }

@@ -1,16 +1,11 @@
 // Statements: their faults.
 ghost use Rattle.std.specs.Prelude.{◌≡◌, ◌<◌, ◌^◌, ◌++◌, length, map, OnOk};
 ghost use Rattle.type_base.specs.Faults.{joined};
-ghost use Rattle.type_rules.specs.declared.position.Position.TheVariants as positions;
-ghost use Rattle.type_rules.specs.Expressions.{typing};
+ghost use Rattle.type_names.specs.declared.Position.TheVariants as positions;
+ghost use Rattle.type_terms.specs.Expressions.{typing};
+ghost use Rattle.type_rules.specs.Types.{joined_types, value_types, assignment_types, return_types, statement_types, part_types, handler_types};
 ghost use Rattle.type_rules.specs.Statements.{condition_faults, assignment_faults, augmented_faults, return_faults, with_faults, statement_faults, part_faults, handler_faults};
 
-use crate::expressions::type_expr;
-use crate::fitting::{note_want, note_wanted};
-use crate::operands::note_arithmetic;
-use crate::position::Position;
-use crate::signature::{Scope, Signature};
-use crate::wants::{note_lock, value_type};
 use class_table::Classes;
 use py_base::{OutOfMemory, Place};
 use py_syntax::Ty;
@@ -18,6 +13,8 @@ use raw_syntax::{Arithmetic, RawElif, RawExpr, RawHandler, RawStmt, RawStmtForm}
 use sqlite_items::Items;
 use std::alloc::Global;
 use type_base::Fault;
+use type_names::{Position, Scope, Signature, TypeAt, note_arithmetic, note_want, note_wanted};
+use type_terms::{note_lock, type_expr, value_type};
 
 fn note_condition(
     e: &RawExpr,
@@ -26,11 +23,22 @@ fn note_condition(
     functions: &[Signature],
     scope: &Scope,
     found: &mut Items<Fault>,
+    types: &mut Items<TypeAt>,
 ) -> Result<(), OutOfMemory>
     requires { length classes.now.list < 2 ^ 32 }
-    ensures { OnOk result (found.new ≡ found.old ++ condition_faults classes.now functions.now scope.now e.now) }
+    ensures faults { OnOk result (found.new ≡ found.old ++ condition_faults classes.now functions.now scope.now e.now) }
+    ensures types { OnOk result (types.new ≡ types.old ++ value_types classes.now functions.now scope.now e.now) }
 {
-    let worth = type_expr(e, alloc, classes, functions, scope, Position::Value, found)?;
+    let worth = type_expr(
+        e,
+        alloc,
+        classes,
+        functions,
+        scope,
+        Position::Value,
+        found,
+        types,
+    )?;
     note_want(found, classes.list.as_slice(), 4, Ty::Bool, worth)
 }
 
@@ -42,9 +50,11 @@ fn note_assignment(
     target: &RawExpr,
     e: &RawExpr,
     found: &mut Items<Fault>,
+    types: &mut Items<TypeAt>,
 ) -> Result<(), OutOfMemory>
     requires { length classes.now.list < 2 ^ 32 }
-    ensures { OnOk result (found.new ≡ found.old ++ assignment_faults classes.now functions.now scope.now target.now e.now) }
+    ensures faults { OnOk result (found.new ≡ found.old ++ assignment_faults classes.now functions.now scope.now target.now e.now) }
+    ensures types { OnOk result (types.new ≡ types.old ++ assignment_types classes.now functions.now scope.now target.now e.now) }
 {
     let t = type_expr(
         target,
@@ -54,8 +64,18 @@ fn note_assignment(
         scope,
         Position::Value,
         found,
+        types,
     )?;
-    let v = type_expr(e, alloc, classes, functions, scope, Position::Value, found)?;
+    let v = type_expr(
+        e,
+        alloc,
+        classes,
+        functions,
+        scope,
+        Position::Value,
+        found,
+        types,
+    )?;
     note_wanted(found, classes.list.as_slice(), 5, t.ty, v)
 }
 
@@ -69,9 +89,11 @@ fn note_augmented(
     place: Place,
     e: &RawExpr,
     found: &mut Items<Fault>,
+    types: &mut Items<TypeAt>,
 ) -> Result<(), OutOfMemory>
     requires { length classes.now.list < 2 ^ 32 }
-    ensures { OnOk result (found.new ≡ found.old ++ augmented_faults classes.now operator place (typing classes.now functions.now scope.now target.now positions.Value) (typing classes.now functions.now scope.now e.now positions.Value)) }
+    ensures faults { OnOk result (found.new ≡ found.old ++ augmented_faults classes.now operator place (typing classes.now functions.now scope.now target.now positions.Value) (typing classes.now functions.now scope.now e.now positions.Value)) }
+    ensures types { OnOk result (types.new ≡ types.old ++ assignment_types classes.now functions.now scope.now target.now e.now) }
 {
     let t = type_expr(
         target,
@@ -81,8 +103,18 @@ fn note_augmented(
         scope,
         Position::Value,
         found,
+        types,
     )?;
-    let v = type_expr(e, alloc, classes, functions, scope, Position::Value, found)?;
+    let v = type_expr(
+        e,
+        alloc,
+        classes,
+        functions,
+        scope,
+        Position::Value,
+        found,
+        types,
+    )?;
     note_arithmetic(found, classes.list.as_slice(), operator, place, t, v)
 }
 
@@ -94,14 +126,16 @@ fn note_returned(
     at: Position,
     value: &Option<RawExpr>,
     found: &mut Items<Fault>,
+    types: &mut Items<TypeAt>,
 ) -> Result<(), OutOfMemory>
     requires { length classes.now.list < 2 ^ 32 }
-    ensures { OnOk result (found.new ≡ found.old ++ return_faults classes.now functions.now scope.now at value.now) }
+    ensures faults { OnOk result (found.new ≡ found.old ++ return_faults classes.now functions.now scope.now at value.now) }
+    ensures types { OnOk result (types.new ≡ types.old ++ return_types classes.now functions.now scope.now at value.now) }
 {
     let Some(e) = value else {
         return Ok(());
     };
-    let worth = type_expr(e, alloc, classes, functions, scope, at, found)?;
+    let worth = type_expr(e, alloc, classes, functions, scope, at, found, types)?;
     note_wanted(
         found,
         classes.list.as_slice(),
@@ -118,9 +152,11 @@ fn note_alone(
     functions: &[Signature],
     scope: &Scope,
     found: &mut Items<Fault>,
+    types: &mut Items<TypeAt>,
 ) -> Result<(), OutOfMemory>
     requires { length classes.now.list < 2 ^ 32 }
-    ensures { OnOk result (found.new ≡ found.old ++ (typing classes.now functions.now scope.now e.now positions.Statement).faults) }
+    ensures faults { OnOk result (found.new ≡ found.old ++ (typing classes.now functions.now scope.now e.now positions.Statement).faults) }
+    ensures types { OnOk result (types.new ≡ types.old ++ (typing classes.now functions.now scope.now e.now positions.Statement).types) }
 {
     type_expr(
         e,
@@ -130,6 +166,7 @@ fn note_alone(
         scope,
         Position::Statement,
         found,
+        types,
     )?;
     Ok(())
 }
@@ -141,11 +178,22 @@ fn note_held(
     scope: &Scope,
     e: &RawExpr,
     found: &mut Items<Fault>,
+    types: &mut Items<TypeAt>,
 ) -> Result<(), OutOfMemory>
     requires { length classes.now.list < 2 ^ 32 }
-    ensures { OnOk result (found.new ≡ found.old ++ with_faults classes.now (typing classes.now functions.now scope.now e.now positions.Value)) }
+    ensures faults { OnOk result (found.new ≡ found.old ++ with_faults classes.now (typing classes.now functions.now scope.now e.now positions.Value)) }
+    ensures types { OnOk result (types.new ≡ types.old ++ value_types classes.now functions.now scope.now e.now) }
 {
-    let worth = type_expr(e, alloc, classes, functions, scope, Position::Value, found)?;
+    let worth = type_expr(
+        e,
+        alloc,
+        classes,
+        functions,
+        scope,
+        Position::Value,
+        found,
+        types,
+    )?;
     note_lock(found, classes, 14, worth.place, worth.ty)
 }
 
@@ -159,43 +207,49 @@ pub fn note_statement(
     scope: &Scope,
     at: Position,
     found: &mut Items<Fault>,
+    types: &mut Items<TypeAt>,
 ) -> Result<(), OutOfMemory>
     requires { length classes.now.list < 2 ^ 32 }
-    ensures { OnOk result (found.new ≡ found.old ++ statement_faults classes.now functions.now scope.now at s.now) }
+    ensures faults { OnOk result (found.new ≡ found.old ++ statement_faults classes.now functions.now scope.now at s.now) }
+    ensures types { OnOk result (types.new ≡ types.old ++ statement_types classes.now functions.now scope.now at s.now) }
 {
     let p = s.place;
     match &s.form {
-        RawStmtForm::Return(e) => note_returned(alloc, classes, functions, scope, at, e, found),
-        RawStmtForm::Assert(e) => note_condition(e, alloc, classes, functions, scope, found),
-        RawStmtForm::Eval(e) => note_alone(e, alloc, classes, functions, scope, found),
+        RawStmtForm::Return(e) => note_returned(
+            alloc, classes, functions, scope, at, e, found, types,
+        ),
+        RawStmtForm::Assert(e) => note_condition(e, alloc, classes, functions, scope, found, types),
+        RawStmtForm::Eval(e) => note_alone(e, alloc, classes, functions, scope, found, types),
         RawStmtForm::Declare(target, _, e) => {
-            note_assignment(alloc, classes, functions, scope, target, e, found)
+            note_assignment(alloc, classes, functions, scope, target, e, found, types)
         }
         RawStmtForm::Assign(target, e) => {
-            note_assignment(alloc, classes, functions, scope, target, e, found)
+            note_assignment(alloc, classes, functions, scope, target, e, found, types)
         }
         RawStmtForm::Augment(target, q, o, e) => {
-            note_augmented(alloc, classes, functions, scope, target, *o, *q, e, found)
+            note_augmented(
+                alloc, classes, functions, scope, target, *o, *q, e, found, types,
+            )
         }
         RawStmtForm::If(e, body, elifs, other) => {
-            note_condition(e, alloc, classes, functions, scope, found)?;
-            note_block(body, alloc, classes, functions, scope, at, found)?;
-            note_parts(elifs, alloc, classes, functions, scope, at, found)?;
-            note_block(other, alloc, classes, functions, scope, at, found)
+            note_condition(e, alloc, classes, functions, scope, found, types)?;
+            note_block(body, alloc, classes, functions, scope, at, found, types)?;
+            note_parts(elifs, alloc, classes, functions, scope, at, found, types)?;
+            note_block(other, alloc, classes, functions, scope, at, found, types)
         }
         RawStmtForm::While(e, body) => {
-            note_condition(e, alloc, classes, functions, scope, found)?;
-            note_block(body, alloc, classes, functions, scope, at, found)
+            note_condition(e, alloc, classes, functions, scope, found, types)?;
+            note_block(body, alloc, classes, functions, scope, at, found, types)
         }
         RawStmtForm::Try(body, handlers, other, last) => {
-            note_block(body, alloc, classes, functions, scope, at, found)?;
-            note_handlers(handlers, alloc, classes, functions, scope, at, found)?;
-            note_block(other, alloc, classes, functions, scope, at, found)?;
-            note_block(last, alloc, classes, functions, scope, at, found)
+            note_block(body, alloc, classes, functions, scope, at, found, types)?;
+            note_handlers(handlers, alloc, classes, functions, scope, at, found, types)?;
+            note_block(other, alloc, classes, functions, scope, at, found, types)?;
+            note_block(last, alloc, classes, functions, scope, at, found, types)
         }
         RawStmtForm::With(e, body) => {
-            note_held(alloc, classes, functions, scope, e, found)?;
-            note_block(body, alloc, classes, functions, scope, at, found)
+            note_held(alloc, classes, functions, scope, e, found, types)?;
+            note_block(body, alloc, classes, functions, scope, at, found, types)
         }
         _ => Ok(()),
     }
@@ -210,12 +264,14 @@ fn note_block(
     scope: &Scope,
     at: Position,
     found: &mut Items<Fault>,
+    types: &mut Items<TypeAt>,
 ) -> Result<(), OutOfMemory>
     requires { length classes.now.list < 2 ^ 32 }
-    ensures { OnOk result (found.new ≡ found.old ++ joined (map (statement_faults classes.now functions.now scope.now at) body.now)) }
+    ensures faults { OnOk result (found.new ≡ found.old ++ joined (map (statement_faults classes.now functions.now scope.now at) body.now)) }
+    ensures types { OnOk result (types.new ≡ types.old ++ joined_types (map (statement_types classes.now functions.now scope.now at) body.now)) }
 {
     'statements: for s in body.as_slice() {
-        note_statement(s, alloc, classes, functions, scope, at, found)?;
+        note_statement(s, alloc, classes, functions, scope, at, found, types)?;
     }
     Ok(())
 }
@@ -229,13 +285,25 @@ fn note_parts(
     scope: &Scope,
     at: Position,
     found: &mut Items<Fault>,
+    types: &mut Items<TypeAt>,
 ) -> Result<(), OutOfMemory>
     requires { length classes.now.list < 2 ^ 32 }
-    ensures { OnOk result (found.new ≡ found.old ++ joined (map (part_faults classes.now functions.now scope.now at) parts.now)) }
+    ensures faults { OnOk result (found.new ≡ found.old ++ joined (map (part_faults classes.now functions.now scope.now at) parts.now)) }
+    ensures types { OnOk result (types.new ≡ types.old ++ joined_types (map (part_types classes.now functions.now scope.now at) parts.now)) }
 {
     'parts: for part in parts.as_slice() {
-        note_condition(&part.condition, alloc, classes, functions, scope, found)?;
-        note_block(&part.body, alloc, classes, functions, scope, at, found)?;
+        note_condition(
+            &part.condition,
+            alloc,
+            classes,
+            functions,
+            scope,
+            found,
+            types,
+        )?;
+        note_block(
+            &part.body, alloc, classes, functions, scope, at, found, types,
+        )?;
     }
     Ok(())
 }
@@ -249,12 +317,23 @@ fn note_handlers(
     scope: &Scope,
     at: Position,
     found: &mut Items<Fault>,
+    types: &mut Items<TypeAt>,
 ) -> Result<(), OutOfMemory>
     requires { length classes.now.list < 2 ^ 32 }
-    ensures { OnOk result (found.new ≡ found.old ++ joined (map (handler_faults classes.now functions.now scope.now at) handlers.now)) }
+    ensures faults { OnOk result (found.new ≡ found.old ++ joined (map (handler_faults classes.now functions.now scope.now at) handlers.now)) }
+    ensures types { OnOk result (types.new ≡ types.old ++ joined_types (map (handler_types classes.now functions.now scope.now at) handlers.now)) }
 {
     'handlers: for handler in handlers.as_slice() {
-        note_block(&handler.body, alloc, classes, functions, scope, at, found)?;
+        note_block(
+            &handler.body,
+            alloc,
+            classes,
+            functions,
+            scope,
+            at,
+            found,
+            types,
+        )?;
     }
     Ok(())
 }

@@ -1,5 +1,5 @@
 -- What is found of a text, and what is told of it.
-use Rattle.std.proofs.Common.{◌≡◌, refl, sym, ap, subst, ◌∙◌, ℕ, List, [], ◌∷◌, ◌++◌, append_assoc, Result, Ok, Err, IfOk, Option, Some, None, MatchOption, codes}
+use Rattle.std.proofs.Common.{◌≡◌, refl, sym, ap, subst, ◌∙◌, ℕ, List, [], ◌∷◌, ◌++◌, append_assoc, Result, Ok, Err, IfOk, Option, Some, None, MatchOption, IfSome, IsSomeAnd, codes}
 use Rattle.py_tokens.specs.declared.Token.{Token}
 use Rattle.py_tokens.specs.declared.TokenForm.TheVariants as forms
 use Rattle.py_tokens.specs.declared.LexFault.{LexFault}
@@ -17,10 +17,17 @@ use Rattle.class_table.specs.declared.ClassFault.TheVariants as classing
 use Rattle.class_table.specs.declared.Classes.{Classes}
 use Rattle.class_table.specs.Faults.{first_fault}
 use Rattle.class_table.specs.ClassList.{classes_of}
+use Rattle.type_base.specs.declared.Fault.{Fault}
+use Rattle.py_types.specs.declared.TypeFault.{TypeFault}
+use Rattle.py_types.specs.declared.TypeFault.TheVariants as refusals
+use Rattle.py_types.specs.Order.{IsFirstFault as IsFirstTypeFault}
+use Rattle.py_types.specs.Typing.{told}
 use Rattle.py_types.specs.TreeFaults.{type_faults}
+use Rattle.contract_kinds.specs.declared.Breach.{Breach}
+use Rattle.contract_forms.specs.Faults.{contract_faults}
 use Rattle.type_text.specs.declared.verdict.Verdict.{Verdict}
-use Rattle.type_text.specs.declared.verdict.Verdict.TheVariants.{NotTyped}
-use Rattle.type_text.specs.Verdicts.{IsTypedBy, IsTreeVerdict, IsTokenVerdict, IsVerdict, not_parsed, parsed, not_lexed, lexed}
+use Rattle.type_text.specs.declared.verdict.Verdict.TheVariants.{NotTyped, Typed, Faulty, Broken}
+use Rattle.type_text.specs.Verdicts.{IsSoundBy, IsTypedBy, IsTreeVerdict, IsTokenVerdict, IsVerdict, not_parsed, parsed, not_lexed, lexed}
 use Rattle.type_text.specs.Replies.{IsAnswerLine, verdict_text, line_end}
 
 -- the tokens of a text end with its end
@@ -31,16 +38,32 @@ tokens_end text ts h =
     let before = last_newline h.last ++ dedents in
     (h.laid ++ before, k, h.all ∙ ap (λ (x : List Token). h.laid ++ x) closing ∙ sym (append_assoc h.laid before (k ∷ [])), refl)
 
+-- a tree with classes has types, or a fault of types
+pub of_type_fault : {E : Type 0} (fs : List Fault) (bs : List Breach) (f : TypeFault) (r : Result Verdict E) → IfSome (told f) (IsFirstTypeFault fs) → IfOk r (λ v. IsSomeAnd (told f) (λ g. v ≡ Faulty g)) → IfOk r (IsTypedBy fs bs)
+of_type_fault fs bs (refusals.Mistyped p rule) (Ok v) h k = subst (IsTypedBy fs bs) (sym k) h
+of_type_fault fs bs (refusals.BoolAsInt p) (Ok v) h k = subst (IsTypedBy fs bs) (sym k) h
+of_type_fault fs bs (refusals.Unassigned p) (Ok v) h k = subst (IsTypedBy fs bs) (sym k) h
+of_type_fault fs bs refusals.OutOfMemory (Ok v) h k = absurd k
+of_type_fault fs bs f (Err e) h k = tt
+
+-- where no fault of types is found, what is found of contracts is told
+pub of_sound : {E : Type 0} (fs : List Fault) (bs : List Breach) (r : Result Verdict E) → fs ≡ [] → IfOk r (IsSoundBy bs) → IfOk r (IsTypedBy fs bs)
+of_sound fs bs (Ok NotTyped) e h = absurd h
+of_sound fs bs (Ok Typed) e h = (e, h)
+of_sound fs bs (Ok (Faulty f)) e h = absurd h
+of_sound fs bs (Ok (Broken b)) e h = (e, h)
+of_sound fs bs (Err x) e h = tt
+
 -- a tree has classes, or a fault of its classes
-pub of_classes : {E : Type 0} (raw : Raw) (cs : Classes) (r : Result Verdict E) → (first_fault raw ≡ None) × (cs ≡ classes_of raw) → IfOk r (IsTypedBy (type_faults raw cs)) → IfOk r (IsTreeVerdict raw)
+pub of_classes : {E : Type 0} (raw : Raw) (cs : Classes) (r : Result Verdict E) → (first_fault raw ≡ None) × (cs ≡ classes_of raw) → IfOk r (IsTypedBy (type_faults raw cs) (contract_faults raw)) → IfOk r (IsTreeVerdict raw)
 of_classes raw cs (Ok v) h k =
-    subst (λ (o : Option ClassFault). MatchOption o (IsTypedBy (type_faults raw (classes_of raw)) v) (λ _. v ≡ NotTyped)) (sym h.0)
-    (subst (λ (c : Classes). IsTypedBy (type_faults raw c) v) h.1 k)
+    subst (λ (o : Option ClassFault). MatchOption o (IsTypedBy (type_faults raw (classes_of raw)) (contract_faults raw) v) (λ _. v ≡ NotTyped)) (sym h.0)
+    (subst (λ (c : Classes). IsTypedBy (type_faults raw c) (contract_faults raw) v) h.1 k)
 of_classes raw cs (Err e) h k = tt
 
 pub of_class_fault : {E : Type 0} (raw : Raw) (f : ClassFault) (r : Result Verdict E) → (¬ (f ≡ classing.OutOfMemory) → first_fault raw ≡ Some f) → IfOk r (λ v. (v ≡ NotTyped) × ¬ (f ≡ classing.OutOfMemory)) → IfOk r (IsTreeVerdict raw)
 of_class_fault raw f (Ok v) h k =
-    subst (λ (o : Option ClassFault). MatchOption o (IsTypedBy (type_faults raw (classes_of raw)) v) (λ _. v ≡ NotTyped)) (sym (h k.1)) k.0
+    subst (λ (o : Option ClassFault). MatchOption o (IsTypedBy (type_faults raw (classes_of raw)) (contract_faults raw) v) (λ _. v ≡ NotTyped)) (sym (h k.1)) k.0
 of_class_fault raw f (Err e) h k = tt
 
 -- tokens have a tree, or a fault

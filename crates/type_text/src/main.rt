@@ -1,4 +1,4 @@
-// The program `type_text`: it reads modules, and prints the first fault of types of each.
+// The program `type_text`: it reads modules, and prints the first fault of types or contracts of each.
 #![tactic(auto)]
 
 mod session;

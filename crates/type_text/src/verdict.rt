@@ -1,41 +1,79 @@
-// What is found of the types of a text.
-ghost use Rattle.std.specs.Prelude.{◌≡◌, ◌+◌, ◌<◌, ◌^◌, length, IfOk};
+// What is found of the types and contracts of a text.
+ghost use Rattle.std.specs.Prelude.{◌≡◌, ◌+◌, ◌<◌, ◌^◌, length, IfOk, IsSomeAnd};
 ghost use Rattle.class_table.specs.declared.ClassFault.TheVariants as classing;
 ghost use Rattle.py_parser.specs.declared.fault.ParseFault.TheVariants as parsing;
 ghost use Rattle.py_tokens.specs.declared.LexFault.TheVariants as lexing;
 ghost use Rattle.py_parser.specs.Reading.{IsEnded};
 ghost use Rattle.py_types.specs.TreeFaults.{type_faults};
-ghost use Rattle.type_text.specs.Verdicts.{IsTypedBy, IsTreeVerdict, IsTokenVerdict, IsVerdict};
-ghost use Rattle.type_text.specs.declared.verdict.Verdict.TheVariants.{NotTyped};
+ghost use Rattle.py_types.specs.Typing.{told};
+ghost use Rattle.contract_forms.specs.Faults.{contract_faults};
+ghost use Rattle.type_text.specs.Verdicts.{IsSoundBy, IsTypedBy, IsTreeVerdict, IsTokenVerdict, IsVerdict};
+ghost use Rattle.type_text.specs.declared.verdict.Verdict.TheVariants.{NotTyped, Faulty};
 
 use class_table::{ClassFault, Classes, build};
+use contract_forms::first_contract_fault;
+use contract_kinds::Breach;
 use py_base::OutOfMemory;
 use py_lexer::lex;
 use py_parser::fault::ParseFault;
 use py_parser::parse::parse;
 use py_tokens::{LexFault, Token};
-use py_types::first_type_fault;
+use py_types::{TypeFault, type_module};
 use raw_syntax::Raw;
 use std::alloc::Global;
-use type_base::Fault;
+use type_base::{Fault, Rank};
 
-/// What is found of the types of a text.
+/// What is found of the types and contracts of a text.
 #[derive(Clone, Copy, Debug)]
 pub enum Verdict {
     /// The text has no tree, or no classes.
     NotTyped,
     /// It has no fault.
     Typed,
-    /// Its first fault.
+    /// Its first fault of types.
     Faulty(Fault),
+    /// Its first breach of the rules on contracts, where it has no fault of types.
+    Broken(Breach),
 }
 
-fn verdict_with(alloc: Global, raw: &Raw, classes: &Classes) -> Result<Verdict, OutOfMemory>
-    ensures { IfOk result (IsTypedBy (type_faults raw.now classes.now)) }
+// What is found where there are no types.
+fn without_types(fault: TypeFault) -> Result<Verdict, OutOfMemory>
+    ensures { IfOk result (λ v. IsSomeAnd (told fault) (λ f. v ≡ Faulty f)) }
 {
-    match first_type_fault(alloc, raw, classes)? {
-        Some(fault) => Ok(Verdict::Faulty(fault)),
+    match fault {
+        TypeFault::Mistyped(place, rule) => Ok(Verdict::Faulty(Fault {
+            place,
+            rank: Rank::Mistyped(rule),
+        })),
+        TypeFault::BoolAsInt(place) => Ok(Verdict::Faulty(Fault {
+            place,
+            rank: Rank::BoolAsInt,
+        })),
+        TypeFault::Unassigned(place) => Ok(Verdict::Faulty(Fault {
+            place,
+            rank: Rank::Unassigned,
+        })),
+        TypeFault::OutOfMemory => Err(OutOfMemory),
+    }
+}
+
+// What is found of a tree without faults of types.
+fn verdict_of_contracts(alloc: Global, raw: &Raw) -> Result<Verdict, OutOfMemory>
+    ensures { IfOk result (IsSoundBy (contract_faults raw.now)) }
+{
+    match first_contract_fault(alloc, raw)? {
+        Some(breach) => Ok(Verdict::Broken(breach)),
         None => Ok(Verdict::Typed),
+    }
+}
+
+#[tactic(auto, using(crate::proofs::Told::of_type_fault, crate::proofs::Told::of_sound))]
+fn verdict_with(alloc: Global, raw: &Raw, classes: &Classes) -> Result<Verdict, OutOfMemory>
+    ensures { IfOk result (IsTypedBy (type_faults raw.now classes.now) (contract_faults raw.now)) }
+{
+    match type_module(alloc, raw, classes) {
+        Ok(_typed) => verdict_of_contracts(alloc, raw),
+        Err(fault) => without_types(fault),
     }
 }
 

@@ -1,6 +1,0 @@
-use Rattle.std.proofs.Common.{◌≡◌, map, take}
-use Rattle.type_rules.specs.Scopes.{parameter_type}
-use Rattle.type_rules.proofs.scopes.parameter_types.Given as goal
-
-abbrev pub invariant-parameters : goal.invariant-parameters
-invariant-parameters l = l.types ≡ map (parameter_type l.classes) (take l.parameter-index l.parameters)

@@ -1,6 +1,0 @@
-use Rattle.std.proofs.Common.{◌≡◌, take}
-use Rattle.type_rules.specs.Calls.{worths}
-use Rattle.type_rules.proofs.threads.worths_of.Given as goal
-
-abbrev pub invariant-givens : goal.invariant-givens
-invariant-givens l = l.all ≡ worths (take l.given-index l.givens)

@@ -1,0 +1,4 @@
+pub mod Sights
+pub mod Settings
+pub mod Ends
+pub mod Ways
