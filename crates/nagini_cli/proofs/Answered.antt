@@ -5,7 +5,7 @@ use Rattle.py_base.specs.declared.Place.{Place}
 use Rattle.py_syntax.specs.declared.Module.{Module}
 use Rattle.py_syntax.specs.SmallForms.{IsSmallModule}
 use Rattle.py_front.specs.Answers.{IsFront}
-use Rattle.py_front.specs.Spelled.{IsMainAlone}
+use Rattle.small_module.specs.Spelled.{IsMainAlone}
 use Rattle.py_front.specs.declared.FrontFault.{FrontFault}
 use Rattle.py_front.specs.declared.FrontFault.TheVariants as faults
 use Rattle.nagini_cli.specs.Answers.{Answers, refused, accepted, not_proved, IsAnswer}

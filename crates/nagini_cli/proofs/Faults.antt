@@ -1,5 +1,5 @@
 -- The local faults of a small module are the first false assert of its `main`, if there is one.
-use Rattle.std.proofs.Common.{◌≡◌, ℕ, zero, suc, ◌+◌, List, [], ◌∷◌, ◌++◌, length, refl, sym, ap, subst, ◌∙◌, inl, inr, arith}
+use Rattle.std.proofs.Common.{◌≡◌, ℕ, zero, suc, List, [], ◌∷◌, ◌++◌, length, refl, sym, ap, subst, ◌∙◌, inl, inr, arith}
 use Rattle.std.specs.Prelude.{pos, All, Contains, Option, Some, None, slice_get, codes}
 use Rattle.std.specs.Option.{option_and_then}
 use Rattle.std.proofs.lemmas.Int.{ints}
@@ -13,7 +13,7 @@ use Rattle.py_syntax.specs.declared.Module.{Module}
 use Rattle.py_syntax.specs.Findings.{Finding, IsBefore}
 use Rattle.py_syntax.specs.SmallForms.{IsSmallModule}
 use Rattle.py_syntax.specs.SmallLocal.{Fault, local, IsLocalFault, HasNoLocalFault}
-use Rattle.py_front.specs.Spelled.{IsMainAlone}
+use Rattle.small_module.specs.Spelled.{IsMainAlone}
 use Rattle.nagini_cli.specs.SmallRun.{first_false, first_false_of, false_assert_text}
 use Rattle.nagini_cli.specs.Texts.{fault_line, not_proved_line, accepted_line}
 use Rattle.nagini_cli.specs.Reports.{AreLocalFaults, method_text, finding_line, report_text}

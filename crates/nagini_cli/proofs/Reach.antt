@@ -12,7 +12,7 @@ use Rattle.py_syntax.specs.declared.Instance.{Instance, fold-Instance}
 use Rattle.py_syntax.specs.declared.Stmt.{Stmt, out-Stmt}
 use Rattle.py_syntax.specs.declared.StmtForm.{StmtForm, StmtForm-F, out-StmtForm}
 use Rattle.nagini_cli.specs.SmallRun.{Meaning, form_meaning, expr_meaning, instance_meaning, value_of, applied, local_value, after_form, after}
-use Rattle.py_front.specs.SmallBody.{IsWithin, AreWithin, reach, IsOperandForm, IsOperand, IsSmallForm, IsSmall, IsSmallStmtForm, IsSmallStmt}
+use Rattle.small_module.specs.SmallBody.{IsWithin, AreWithin, reach, IsOperandForm, IsOperand, IsSmallForm, IsSmall, IsSmallStmtForm, IsSmallStmt}
 
 -- one more statement doubles the reach
 pub reach-more : (k : ℕ) → reach (k + 1) ≡ reach k + reach k

@@ -24,6 +24,10 @@ read_fault_line name = codes "read fault " ++ (name ++ line_end)
 abbrev pub refusal_line : List ℕ → Place → List ℕ
 refusal_line name place = codes "refused " ++ (name ++ (codes " " ++ place_then place line_end))
 
+-- a typing rule is broken, which has this number
+abbrev pub mistyped_line : Place → ℕ → List ℕ
+mistyped_line place rule = codes "refused Mistyped " ++ place_then place (codes " rule " ++ (decimal rule ++ line_end))
+
 -- so many functions are proved
 abbrev pub accepted_line : ℕ → List ℕ
 accepted_line count = codes "accepted " ++ (decimal count ++ line_end)

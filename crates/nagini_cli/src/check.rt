@@ -4,7 +4,7 @@ ghost use Rattle.io_edge.specs.Outside.{held_at, Rose};
 ghost use Rattle.py_base.specs.declared.Place.{Place};
 ghost use Rattle.py_syntax.specs.declared.Module.{Module};
 ghost use Rattle.py_front.specs.declared.FrontFault.TheVariants as faults;
-ghost use Rattle.py_front.specs.SmallBody.{IsSmallModule};
+ghost use Rattle.small_module.specs.SmallBody.{IsSmallModule};
 ghost use Rattle.nagini_cli.specs.SmallRun as small_run;
 ghost use Rattle.nagini_cli.specs.Allowed.{ChecksFile};
 ghost use Rattle.nagini_cli.specs.Answers.{IsAnswer};
@@ -18,7 +18,8 @@ use crate::reply::Reply;
 use crate::small_run::first_false;
 use crate::status::{ACCEPTED, LIMIT, NOT_PROVED, READ_FAULT, REFUSED};
 use crate::texts::{
-    accepted_line, fault_line, limit_line, not_proved_line, read_fault_line, refusal_line,
+    accepted_line, fault_line, limit_line, mistyped_line, not_proved_line, read_fault_line,
+    refusal_line,
 };
 use io_edge::{FileAnswer, Files};
 use py_base::{Kind, OutOfMemory, Place};
@@ -109,7 +110,21 @@ pub fn refuse(alloc: Global, fault: FrontFault) -> Result<Reply, OutOfMemory>
         FrontFault::LineTooLong => limit(alloc, "line"),
         FrontFault::TooManyStatements => limit(alloc, "statements"),
         FrontFault::TooManyMethods => limit(alloc, "methods"),
+        FrontFault::DuplicateName(place) => refuse_at(alloc, "DuplicateName", place),
+        FrontFault::UnknownBase(place) => refuse_at(alloc, "UnknownBase", place),
+        FrontFault::BaseCycle(place) => refuse_at(alloc, "BaseCycle", place),
+        FrontFault::BadInit(place) => refuse_at(alloc, "BadInit", place),
         FrontFault::NoMain(place) => refuse_at(alloc, "NoMain", place),
+        FrontFault::Mistyped(place, rule) => refuse_mistyped(alloc, place, rule),
+        FrontFault::BoolAsInt(place) => refuse_at(alloc, "BoolAsInt", place),
+        FrontFault::Unassigned(place) => refuse_at(alloc, "Unassigned", place),
+        FrontFault::ContractPlace(place) => refuse_at(alloc, "ContractPlace", place),
+        FrontFault::OldInPre(place) => refuse_at(alloc, "OldInPre", place),
+        FrontFault::DutyPlace(place) => refuse_at(alloc, "DutyPlace", place),
+        FrontFault::BadFraction(place) => refuse_at(alloc, "BadFraction", place),
+        FrontFault::RecursivePure(place) => refuse_at(alloc, "RecursivePure", place),
+        FrontFault::BadTarget(place) => refuse_at(alloc, "BadTarget", place),
+        FrontFault::UnknownPredicate(place) => refuse_at(alloc, "UnknownPredicate", place),
         FrontFault::NotBuilt(place) => refuse_at(alloc, "NotBuilt", place),
         FrontFault::OutOfMemory => Err(OutOfMemory),
     }
@@ -120,6 +135,13 @@ fn refuse_at(alloc: Global, name: &str, place: Place) -> Result<Reply, OutOfMemo
     ensures { IfOk result (λ r. Says r REFUSED (texts.refusal_line name.now place)) }
 {
     Ok(Reply::one(alloc, REFUSED, refusal_line(alloc, name, place)?)?)
+}
+
+// The reply where a text breaks the typing rule of this number.
+fn refuse_mistyped(alloc: Global, place: Place, rule: u8) -> Result<Reply, OutOfMemory>
+    ensures { IfOk result (λ r. Says r REFUSED (texts.mistyped_line place rule)) }
+{
+    Ok(Reply::one(alloc, REFUSED, mistyped_line(alloc, place, rule)?)?)
 }
 
 // What is said of a small module.

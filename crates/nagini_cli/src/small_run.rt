@@ -1,7 +1,7 @@
 // The asserts of a small function.
 ghost use Rattle.std.specs.Prelude.{◌≡◌, ◌≤◌, IfOk, All, length};
 ghost use Rattle.nagini_cli.specs.SmallRun as small_run;
-ghost use Rattle.py_front.specs.SmallBody.{IsWithin, AreWithin, IsOperand, IsSmall, IsEquation, IsSmallStmt, IsSmallMethod, IsSmallModule, reach};
+ghost use Rattle.small_module.specs.SmallBody.{IsWithin, AreWithin, IsOperand, IsSmall, IsEquation, IsSmallStmt, IsSmallMethod, IsSmallModule, reach};
 
 use py_base::{OutOfMemory, Place};
 use py_syntax::{Expr, ExprForm, Method, Module, Stmt, StmtForm};

@@ -30,6 +30,13 @@ pub fn refusal_line(alloc: Global, name: &str, place: Place) -> Result<String, A
     format!(in alloc; "refused {name} {line}:{col}\n")
 }
 
+pub fn mistyped_line(alloc: Global, place: Place, rule: u8) -> Result<String, AllocError>
+    ensures { IfOk result (λ line. string_bytes line ≡ texts.mistyped_line place rule) }
+{
+    let Place { line, col } = place;
+    format!(in alloc; "refused Mistyped {line}:{col} rule {rule}\n")
+}
+
 pub fn accepted_line(alloc: Global, count: usize) -> Result<String, AllocError>
     ensures { IfOk result (λ line. string_bytes line ≡ texts.accepted_line count) }
 {

@@ -123,7 +123,6 @@ fn other_texts_are_refused_at_their_place(rt: HostRuntime) -> Result<(), Fail> {
 #[test]
 fn other_modules_are_refused_at_their_first_form(rt: HostRuntime) -> Result<(), Fail> {
     for (text, output) in [
-        ("def main() -> None:\n    x = y\n", "refused NotBuilt 2:9\n"),
         (
             "def main() -> None:\n    x = 1 + 2 - 3\n",
             "refused NotBuilt 2:15\n",
@@ -156,16 +155,172 @@ fn other_modules_are_refused_at_their_first_form(rt: HostRuntime) -> Result<(), 
             "def main() -> None:\n    return\n",
             "refused NotBuilt 2:5\n",
         ),
-        ("def main() -> int:\n    pass\n", "refused NotBuilt 1:15\n"),
+        (
+            "def f() -> None:\n    pass\ndef main() -> None:\n    pass\n",
+            "refused NotBuilt 1:5\n",
+        ),
+        (
+            "def main() -> None:\n    pass\nclass A:\n    pass\n",
+            "refused NotBuilt 3:7\n",
+        ),
+    ] {
+        assert!(rt;
+            gives(rt.alloc(), "check m.py", text.as_bytes(), 2, output)?,
+            "{text}"
+        );
+    }
+    Ok(())
+}
+
+// The first fault of classes.
+#[test]
+fn other_classes_are_refused(rt: HostRuntime) -> Result<(), Fail> {
+    for (text, output) in [
+        ("def main() -> int:\n    pass\n", "refused NoMain 3:1\n"),
         (
             "def main(x: int) -> None:\n    pass\n",
-            "refused NotBuilt 1:10\n",
+            "refused NoMain 3:1\n",
         ),
-        ("def f() -> None:\n    pass\n", "refused NotBuilt 1:5\n"),
-        ("class A:\n    pass\n", "refused NotBuilt 1:7\n"),
+        ("def f() -> None:\n    pass\n", "refused NoMain 3:1\n"),
+        ("class A:\n    pass\n", "refused NoMain 3:1\n"),
         (
             "def main() -> None:\n    pass\ndef main() -> None:\n    pass\n",
-            "refused NotBuilt 3:5\n",
+            "refused DuplicateName 3:5\n",
+        ),
+        (
+            "def main() -> None:\n    Lock = 1\n",
+            "refused DuplicateName 2:5\n",
+        ),
+        (
+            "class A(A):\n    pass\ndef main() -> None:\n    pass\n",
+            "refused BaseCycle 1:9\n",
+        ),
+        (
+            "class A:\n    def __init__(self) -> int:\n        pass\ndef main() -> None:\n    pass\n",
+            "refused BadInit 2:9\n",
+        ),
+        (
+            "def main() -> None:\n    return\nclass A(C):\n    pass\n",
+            "refused UnknownBase 3:9\n",
+        ),
+    ] {
+        assert!(rt;
+            gives(rt.alloc(), "check m.py", text.as_bytes(), 2, output)?,
+            "{text}"
+        );
+    }
+    Ok(())
+}
+
+// The first fault of types.
+#[test]
+fn other_types_are_refused(rt: HostRuntime) -> Result<(), Fail> {
+    for (text, output) in [
+        (
+            "def main() -> None:\n    x = y\n",
+            "refused Mistyped 2:9 rule 2\n",
+        ),
+        (
+            "def main() -> None:\n    x = y\n    z = w\n",
+            "refused Mistyped 2:9 rule 2\n",
+        ),
+        (
+            "def main() -> None:\n    assert 1\n",
+            "refused Mistyped 2:12 rule 4\n",
+        ),
+        (
+            "def main() -> None:\n    return 1\n",
+            "refused Mistyped 2:5 rule 11\n",
+        ),
+        (
+            "def main() -> None:\n    break\n",
+            "refused Mistyped 2:5 rule 13\n",
+        ),
+        (
+            "def main() -> None:\n    x = True + 1\n",
+            "refused BoolAsInt 2:9\n",
+        ),
+        (
+            "def main() -> None:\n    if True:\n        x = 1\n    print(x)\n",
+            "refused Unassigned 4:11\n",
+        ),
+    ] {
+        assert!(rt;
+            gives(rt.alloc(), "check m.py", text.as_bytes(), 2, output)?,
+            "{text}"
+        );
+    }
+    Ok(())
+}
+
+// The first fault of contracts.
+#[test]
+fn other_contracts_are_refused(rt: HostRuntime) -> Result<(), Fail> {
+    for (text, output) in [
+        (
+            "def main() -> None:\n    x = 1\n    Requires(True)\n",
+            "refused ContractPlace 3:5\n",
+        ),
+        (
+            "def f(x: int) -> None:\n    Requires(Old(x) == 1)\ndef main() -> None:\n    pass\n",
+            "refused OldInPre 2:14\n",
+        ),
+        (
+            "def f(x: int) -> None:\n    Ensures(MustTerminate(x))\ndef main() -> None:\n    pass\n",
+            "refused DutyPlace 2:13\n",
+        ),
+        (
+            "class C:\n    def __init__(self) -> None:\n        self.f = 0\ndef f(c: C) -> None:\n    Requires(Acc(c.f, 3/2))\ndef main() -> None:\n    pass\n",
+            "refused BadFraction 5:23\n",
+        ),
+        (
+            "@Pure\ndef f(x: int) -> int:\n    return f(x)\ndef main() -> None:\n    pass\n",
+            "refused RecursivePure 2:5\n",
+        ),
+        (
+            "def f(x: int) -> int:\n    return x\ndef main() -> None:\n    t = Thread(target=f, args=(1,), level=1)\n",
+            "refused BadTarget 4:23\n",
+        ),
+        (
+            "def main() -> None:\n    Fold(g(1))\n",
+            "refused UnknownPredicate 2:10\n",
+        ),
+    ] {
+        assert!(rt;
+            gives(rt.alloc(), "check m.py", text.as_bytes(), 2, output)?,
+            "{text}"
+        );
+    }
+    Ok(())
+}
+
+// A fault of classes comes before one of types, that before one of contracts, and each before a form that isn't built, wherever they stand.
+#[test]
+fn faults_are_told_in_their_order(rt: HostRuntime) -> Result<(), Fail> {
+    for (text, output) in [
+        (
+            "def main() -> None:\n    x = y\nclass A(C):\n    pass\n",
+            "refused UnknownBase 3:9\n",
+        ),
+        (
+            "def main() -> None:\n    x = 1\n    Requires(True)\n    y = z\n",
+            "refused Mistyped 4:9 rule 2\n",
+        ),
+        (
+            "def main() -> None:\n    x = 2 * 3\n    y = z\n",
+            "refused Mistyped 3:9 rule 2\n",
+        ),
+        (
+            "def main() -> None:\n    x = 2 * 3\n    Requires(True)\n",
+            "refused ContractPlace 3:5\n",
+        ),
+        (
+            "def main() -> None:\n    x = 1 + 2 - True\n",
+            "refused BoolAsInt 2:17\n",
+        ),
+        (
+            "def main() -> None:\n    x = 2 * 3\n    x = (y\n",
+            "refused Syntax 4:1\n",
         ),
     ] {
         assert!(rt;

@@ -72,7 +72,7 @@ fn other_texts_have_faults(rt: HostRuntime) -> Result<(), Fail> {
     for (text, fault) in [
         (
             "def main() -> None:\n    x = y\n",
-            FrontFault::NotBuilt(at(2, 9)),
+            FrontFault::Mistyped(at(2, 9), 2),
         ),
         (
             "def main() -> None:\n    x = 1 + 2 - 3\n",
@@ -88,7 +88,7 @@ fn other_texts_have_faults(rt: HostRuntime) -> Result<(), Fail> {
         ),
         (
             "def main() -> None:\n    assert 1\n",
-            FrontFault::NotBuilt(at(2, 5)),
+            FrontFault::Mistyped(at(2, 12), 4),
         ),
         (
             "def main() -> None:\n    assert 1 == 1 == 1\n",
@@ -96,7 +96,7 @@ fn other_texts_have_faults(rt: HostRuntime) -> Result<(), Fail> {
         ),
         (
             "def main() -> None:\n    x.f = 1\n",
-            FrontFault::NotBuilt(at(2, 7)),
+            FrontFault::Mistyped(at(2, 5), 2),
         ),
         (
             "def main() -> None:\n    return\n",
@@ -104,15 +104,15 @@ fn other_texts_have_faults(rt: HostRuntime) -> Result<(), Fail> {
         ),
         (
             "def main() -> None:\n    pass\ndef main() -> None:\n    pass\n",
-            FrontFault::NotBuilt(at(3, 5)),
+            FrontFault::DuplicateName(at(3, 5)),
         ),
         (
             "def main() -> int:\n    pass\n",
-            FrontFault::NotBuilt(at(1, 15)),
+            FrontFault::NoMain(at(3, 1)),
         ),
         (
             "def main(x) -> None:\n    pass\n",
-            FrontFault::NotBuilt(at(1, 10)),
+            FrontFault::NoMain(at(3, 1)),
         ),
         ("", FrontFault::NoMain(at(1, 1))),
         (

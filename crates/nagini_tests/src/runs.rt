@@ -71,7 +71,12 @@ fn a_schedule_is_refused_after_the_module(rt: HostRuntime) -> Result<(), Fail> {
             2,
             "refused BadSchedule line 3\n",
         ),
-        (unknown, "schedule 1\n0 x\n", 2, "refused NotBuilt 2:9\n"),
+        (
+            unknown,
+            "schedule 1\n0 x\n",
+            2,
+            "refused Mistyped 2:9 rule 2\n",
+        ),
         ("", "", 2, "refused NoMain 1:1\n"),
     ] {
         assert!(rt;

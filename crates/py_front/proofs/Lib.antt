@@ -1,9 +1,4 @@
-pub mod Positions
 pub mod Answering
 pub mod OneFront
 pub mod SomeFront
-pub mod Bodies
-pub mod Kept
-pub mod Views
-pub mod SumShapes
-pub mod Shapes
+pub mod SmallFronts

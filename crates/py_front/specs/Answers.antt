@@ -9,7 +9,7 @@ use Rattle.py_parser.specs.declared.fault.ParseFault.{ParseFault}
 use Rattle.py_parser.specs.declared.fault.ParseFault.TheVariants as parsing
 use Rattle.py_parser.specs.Parsing.{IsAnswer}
 use Rattle.py_syntax.specs.declared.Module.{Module}
-use Rattle.py_front.specs.SmallModule.{module_of}
+use Rattle.py_front.specs.TreeAnswers.{IsTreeAnswer}
 use Rattle.py_front.specs.declared.fault.FrontFault.{FrontFault}
 use Rattle.py_front.specs.declared.fault.FrontFault.TheVariants as faults
 
@@ -32,8 +32,8 @@ of_parse parsing.TooManyStatements = faults.TooManyStatements
 of_parse parsing.TooManyMethods = faults.TooManyMethods
 of_parse parsing.OutOfMemory = faults.OutOfMemory
 
--- The first fault of its characters and tokens, or of their tree, or else what the tree spells.
+-- The first fault of its characters and tokens, or of their tree, or else what the tree gives.
 pub data IsFront (text : List ℕ) : Result Module FrontFault → Type 0 where
   not_lexed : (f : LexFault) → IsFirstFault text f → IsFront text (Err (of_lex f))
   not_parsed : (ts : List Token) (f : ParseFault) → ¬ (f ≡ parsing.OutOfMemory) → Tokens text ts → IsAnswer ts (Err f) → IsFront text (Err (of_parse f))
-  parsed : (ts : List Token) (tree : Raw) → Tokens text ts → IsAnswer ts (Ok tree) → IsFront text (module_of tree)
+  parsed : (ts : List Token) (tree : Raw) (answer : Result Module FrontFault) → Tokens text ts → IsAnswer ts (Ok tree) → IsTreeAnswer tree answer → IsFront text answer

@@ -1,5 +1,2 @@
-pub mod SmallTree
-pub mod SmallModule
+pub mod TreeAnswers
 pub mod Answers
-pub mod SmallBody
-pub mod Spelled

@@ -31,8 +31,36 @@ pub enum FrontFault {
     TooManyStatements,
     /// The module has more than 1,000 functions.
     TooManyMethods,
-    /// The module has no function `main`.
+    /// A name is declared twice in one scope, is built in or reserved, or is a field of a base.
+    DuplicateName(Place),
+    /// The base is no class that may be a base.
+    UnknownBase(Place),
+    /// The base is the class itself or stands later.
+    BaseCycle(Place),
+    /// The form of `__init__`, or of the members of a class of locks or exceptions, is broken.
+    BadInit(Place),
+    /// The module has no function `main` of the right form.
     NoMain(Place),
+    /// The typing rule of this number is broken.
+    Mistyped(Place, u8),
+    /// A `bool` stands where an `int` is wanted.
+    BoolAsInt(Place),
+    /// Some way through the text reaches the read of a local with no assignment.
+    Unassigned(Place),
+    /// A contract stands where it may not.
+    ContractPlace(Place),
+    /// `Old` stands in a precondition, a predicate or the invariant of a lock.
+    OldInPre(Place),
+    /// A duty, `MayJoin` or `WaitLevel` stands in a contract where it may not.
+    DutyPlace(Place),
+    /// The second argument of `Acc` isn't a fraction of two numbers from 1/16 to 1.
+    BadFraction(Place),
+    /// A pure function reaches itself.
+    RecursivePure(Place),
+    /// A function is no target of a thread.
+    BadTarget(Place),
+    /// `Fold`, `Unfold` or `Unfolding` names no predicate.
+    UnknownPredicate(Place),
     /// The module has a form that isn't built yet.
     NotBuilt(Place),
     /// There was no memory.

@@ -1,19 +1,13 @@
-//! From the bytes of a text to its module. The modules that are built so far are the small ones: the
-//! function `main` with straight-line statements over whole numbers.
+//! From the bytes of a text to its module, or to its first fault: of its tokens, its tree, its classes, its types and its
+//! contracts, and last the first form that isn't built. The modules that are built so far are the small ones: the function `main` with straight-line
+//! statements over whole numbers.
 #![tactic(auto)]
 
-mod body;
 mod fault;
 mod laws;
-mod lists;
-mod parts;
-mod piece;
 mod reader;
 mod small_laws;
-mod small_module;
-mod statements;
-mod sums;
-mod words;
+mod trees;
 
 pub use fault::FrontFault;
 pub use laws::{a_text_has_one_answer, each_text_has_an_answer};

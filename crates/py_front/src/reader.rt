@@ -5,7 +5,7 @@ ghost use Rattle.py_parser.specs.Reading.{IsEnded};
 ghost use Rattle.py_front.specs.Answers.{IsFront, of_lex, of_parse};
 
 use crate::fault::FrontFault;
-use crate::small_module::module_of;
+use crate::trees::module_of_tree;
 use py_lexer::lex;
 use py_parser::fault::ParseFault;
 use py_parser::parse::parse;
@@ -43,18 +43,13 @@ fn of_parse(fault: ParseFault) -> FrontFault
 }
 
 // The module of a text with these tokens.
-#[tactic(auto, using(crate::proofs::Answering::front_not_parsed, crate::proofs::Answering::front_parsed))]
 fn module_of_tokens(alloc: Global, tokens: &[Token]) -> Result<Module, FrontFault>
     requires { IsEnded tokens.now }
     ensures { (text : List ℕ) → Tokens text tokens.now → ¬ (result ≡ Err FrontFault.OutOfMemory) → IsFront text result }
 {
-    let tree = match parse(alloc, tokens) {
-        Ok(tree) => tree,
-        Err(fault) => return Err(of_parse(fault)),
-    };
-    match module_of(alloc, &tree) {
-        Ok(answer) => answer,
-        Err(_) => Err(FrontFault::OutOfMemory),
+    match parse(alloc, tokens) {
+        Ok(tree) => module_of_tree(alloc, &tree),
+        Err(fault) => Err(of_parse(fault)),
     }
 }
 

@@ -1,10 +1,15 @@
 -- A small text spells the same module in the whole grammar.
-use Rattle.std.proofs.Common.{sym, subst, ℕ, ◌+◌, List, ◌∷◌, ◌++◌, length, Ok}
+use Rattle.std.proofs.Common.{sym, ap, subst, ℕ, ◌+◌, List, ◌∷◌, ◌++◌, length, Result, Ok}
 use Rattle.py_tokens.specs.declared.Token.{Token}
 use Rattle.py_tokens.specs.TextTokens.{Tokens}
 use Rattle.raw_syntax.specs.declared.Raw.{Raw}
 use Rattle.py_syntax.specs.declared.Module.{Module}
+use Rattle.class_table.specs.ClassList.{classes_of}
+use Rattle.small_module.specs.SmallModule.{module_of}
+use Rattle.small_trees.proofs.Whole.{no_fault_of_classes, no_fault_of_types, no_fault_of_contracts}
+use Rattle.py_front.specs.TreeAnswers.{built, IsTreeAnswer, faultless}
 use Rattle.py_front.specs.Answers.{IsFront, parsed}
+use Rattle.py_front.specs.declared.FrontFault.{FrontFault}
 use Rattle.small_text.specs.TextLines.{lines_of}
 use Rattle.small_text.specs.SmallText.{Spells}
 use Rattle.small_text.proofs.LineBits.{Row, head, small_tokens}
@@ -28,4 +33,5 @@ same_module text m spelled =
     let n : ℕ = 1 + length small.skips in
     let ts : List Token = small_tokens n small.rows in
     let tree : Raw = small_tree n small.rows in
-    subst (λ r. IsFront text r) small.reads (parsed ts tree (small_text_tokens text m small) (answered n small.rows small.some small.few))
+    let fine : IsTreeAnswer tree (built (module_of tree)) = faultless (no_fault_of_classes tree m small.reads) (no_fault_of_types tree m (classes_of tree) small.reads) (no_fault_of_contracts tree m small.reads) in
+    subst (λ (r : Result Module FrontFault). IsFront text r) (ap built small.reads) (parsed ts tree (built (module_of tree)) (small_text_tokens text m small) (answered n small.rows small.some small.few) fine)

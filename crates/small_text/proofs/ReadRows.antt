@@ -5,8 +5,8 @@ use Rattle.std.proofs.lemmas.List.Elements.{All-nil, All-cons}
 use Rattle.py_syntax.specs.declared.Stmt.{Stmt}
 use Rattle.py_syntax.specs.declared.Module.{Module}
 use Rattle.raw_syntax.specs.declared.RawStmt.{RawStmt}
-use Rattle.py_front.specs.SmallTree.{◌>>=◌}
-use Rattle.py_front.specs.SmallModule.{main_module, stmt_of, body_of, with_count, last_item, built, module_of}
+use Rattle.small_module.specs.SmallTree.{◌>>=◌}
+use Rattle.small_module.specs.SmallModule.{main_module, stmt_of, body_of, with_count, last_item, module_of}
 use Rattle.small_text.specs.SmallText.{SpellsBody, SpellsMain, SpellsFrom}
 use Rattle.small_text.proofs.LineBits.{Row, blank, remark, head, says, row_text, at}
 use Rattle.small_text.proofs.SmallRows.{IsPassed, IsBody}
@@ -108,7 +108,7 @@ read_main n line lines m h =
     let same_end : n + 1 + length body.rows ≡ n + 1 + length lines = omega (arith, ap length body.text, length-map body.rows row_text) in
     let whole : List Stmt → ℕ → ℕ → Module = λ ss k last. main_module (at n 5) k ss (at last 1) in
     let said : module_of (small_tree n body.rows) ≡ Ok m =
-    ap (λ r. built (with_count r >>= (λ r. Ok (whole r.0 r.1 (n + 1 + length body.rows))) >>= last_item [])) (body.reads [] (omega (arith, h.few)))
+    ap (λ r. with_count r >>= (λ r. Ok (whole r.0 r.1 (n + 1 + length body.rows))) >>= last_item []) (body.reads [] (omega (arith, h.few)))
     ∙ ap (λ last. Ok (whole h.body (length h.names) last)) same_end
     ∙ ap (λ t. Ok t) (sym h.is) in
     let none : n ≡ n + length {A = Row} [] = omega arith in

@@ -1,7 +1,9 @@
 -- What the lines of a small text say is what their trees say.
-use Rattle.std.proofs.Common.{◌≡◌, refl, sym, ap, subst, ◌∙◌, ℕ, zero, suc, ◌+◌, Bool, false, ◌&&◌, nat_lt, nat_le, if◌then◌else◌, bytes_eq, List, [], ◌∷◌, ◌++◌, length, drop, append_assoc, Ok, Err, IsTrue, codes, arith}
+use Rattle.std.proofs.Common.{◌≡◌, refl, sym, ap, subst, ◌∙◌, ℕ, ◌+◌, Bool, true, false, not, ◌&&◌, ◌||◌, nat_lt, nat_le, if◌then◌else◌, bytes_eq, List, [], ◌∷◌, ◌++◌, length, append_assoc, Ok, Err, IsTrue, codes, arith}
 use Rattle.std.specs.List.{list_any, list_all}
-use Rattle.std.proofs.lemmas.Bool.{and_parts, or_parts, not-true}
+use Rattle.std.proofs.lemmas.Bool.{and_parts, and_from, or_parts}
+use Rattle.std.proofs.lemmas.Slice.Eq.{bytes_eq-Decides}
+use Rattle.class_table.specs.Names.{built_in_names}
 use Rattle.py_base.specs.declared.Place.{Place}
 use Rattle.py_syntax.specs.declared.Expr.{Expr}
 use Rattle.py_syntax.specs.declared.PrintArg.TheVariants.{Value}
@@ -10,10 +12,10 @@ use Rattle.py_syntax.specs.declared.StmtForm.TheVariants.{Store, Check, Print}
 use Rattle.raw_syntax.specs.declared.RawExpr.{RawExpr}
 use Rattle.raw_syntax.specs.declared.Comparison.TheVariants as compares
 use Rattle.py_tokens.specs.declared.Mark.TheVariants as marks
-use Rattle.py_front.specs.SmallTree.{local_number, with_name, view, View, name, call, value, equation_at, seen_as, name_piece, ◌>>=◌, sum_of}
-use Rattle.py_front.specs.SmallTree as tree
-use Rattle.py_front.specs.SmallModule.{statement, store_of, last_link, check_of, print_of, keeping, form_of, stmt_of}
-use Rattle.small_text.specs.SmallForms.{is_letter, is_name, reserved_words, is_reserved, stmt_at, SpellsExpr, SpellsStmt, spells_pass, spells_store, spells_check, spells_print}
+use Rattle.small_module.specs.SmallTree.{local_number, with_name, view, View, name, call, value, equation_at, seen_as, name_piece, ◌>>=◌, sum_of}
+use Rattle.small_module.specs.SmallTree as tree
+use Rattle.small_module.specs.SmallModule.{statement, store_of, last_link, check_of, print_of, keeping, form_of, stmt_of}
+use Rattle.small_text.specs.SmallForms.{is_letter, is_name, is_reserved, stmt_at, SpellsExpr, SpellsStmt, spells_pass, spells_store, spells_check, spells_print}
 use Rattle.small_text.proofs.LineBits.{Sum, Said, passes, stores, checks, prints, says, space, mark, sum_bits, bits_text, row_text, at}
 use Rattle.small_text.proofs.SmallRows.{IsSaid}
 use Rattle.small_text.proofs.SmallTrees.{sum_end, sum_expr, equal_at, checked_expr, print_expr, printed_expr, said_stmt}
@@ -29,15 +31,43 @@ pub record ReadStmt (names : List (List ℕ)) (line : ℕ) (bytes : List ℕ) (s
   pub fine : IsSaid said
   pub reads : stmt_of names (said_stmt line said) ≡ Ok (s, after)
 
-none_behind : (p : List ℕ → Bool) (n : ℕ) (ws : List (List ℕ)) → list_any p ws ≡ false → list_any p (drop n ws) ≡ false
-none_behind p zero ws h = h
-none_behind p (suc n) [] h = refl
-none_behind p (suc n) (w ∷ ws) h = none_behind p n ws (or_parts (p w) (list_any p ws) h).1
+-- a word of letters a to z that has no meaning of its own
+unfoldable is_free : List ℕ → Bool
+is_free w = list_all is_letter w && not (is_reserved w)
+
+refuted : (b : Bool) → (b ≡ true → ⊥) → b ≡ false
+refuted true h = absurd (h refl)
+refuted false h = refl
+
+true_is_not_false : (b : Bool) → b ≡ true → b ≡ false → ⊥
+true_is_not_false b h k = cc
+
+-- a free word is none of those that aren't
+is_other : (n w : List ℕ) → is_free n ≡ true → is_free w ≡ false → bytes_eq n w ≡ false
+is_other n w free taken = refuted (bytes_eq n w) (λ h. true_is_not_false (is_free w) (subst (λ (x : List ℕ). is_free x ≡ true) ((bytes_eq-Decides n w).0 h) free) taken)
+
+none_of : (n : List ℕ) (ws : List (List ℕ)) → is_free n ≡ true → list_any is_free ws ≡ false → list_any (bytes_eq n) ws ≡ false
+none_of n [] free h = refl
+none_of n (w ∷ ws) free h =
+    let (first, more) = or_parts (is_free w) (list_any is_free ws) h in
+    ap (λ (b : Bool). b || list_any (bytes_eq n) ws) (is_other n w free first) ∙ none_of n ws free more
+
+name_is_free : (n : List ℕ) → IsTrue (is_name n) → is_free n ≡ true
+unfolding is_name is_free
+name_is_free n h =
+    let (front, last) = and_parts (list_all is_letter n && nat_lt 0 (length n) && nat_le (length n) 20) (not (is_reserved n)) h in
+    let (letters, short) = and_parts (list_all is_letter n && nat_lt 0 (length n)) (nat_le (length n) 20) front in
+    let (all, some) = and_parts (list_all is_letter n) (nat_lt 0 (length n)) letters in
+    and_from (list_all is_letter n) (not (is_reserved n)) all last
 
 -- a name is none of the words that have a meaning of their own
 not_reserved : (n : List ℕ) → IsTrue (is_name n) → tree.is_reserved n ≡ false
-unfolding is_name is_reserved
-not_reserved n h = none_behind (bytes_eq n) 32 reserved_words (not-true (list_any (bytes_eq n) reserved_words) (and_parts (list_all is_letter n && nat_lt 0 (length n) && nat_le (length n) 20) _ h).1)
+unfolding is_free is_reserved
+not_reserved n h =
+    let free : is_free n ≡ true = name_is_free n h in
+    ap (λ (b : Bool). b || (bytes_eq n (codes "main") || bytes_eq n (codes "self"))) (none_of n built_in_names free refl)
+    ∙ ap (λ (b : Bool). b || bytes_eq n (codes "self")) (is_other n (codes "main") free refl)
+    ∙ is_other n (codes "self") free refl
 
 stored : (names : List (List ℕ)) (p : Place) (n : List ℕ) (target given : RawExpr) (e : Expr) → view names target ≡ seen_as (name n) (name_piece names p n ∷ []) p → tree.is_reserved n ≡ false → ((q : Place) → sum_of q (view names given).parts ≡ Ok e) → store_of names p (view names target) (view names given) ≡ Ok (statement p (Store (local_number names n) e), with_name names n)
 stored names p n target given e is free reads =

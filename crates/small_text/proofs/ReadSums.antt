@@ -4,9 +4,9 @@ use Rattle.py_base.specs.declared.Place.{Place}
 use Rattle.py_syntax.specs.declared.Expr.{Expr}
 use Rattle.raw_syntax.specs.declared.Arithmetic.{Arithmetic}
 use Rattle.raw_syntax.specs.declared.Arithmetic.TheVariants as signs
-use Rattle.py_front.specs.SmallTree.{is_known, local_number, number_at, sum_at, view, View, sign_piece, ◌>>=◌, operand_of, right_of, sum_of}
-use Rattle.py_front.specs.declared.piece.Piece.{Piece}
-use Rattle.py_front.specs.declared.piece.Piece.TheVariants as pieces
+use Rattle.small_module.specs.SmallTree.{is_known, local_number, number_at, sum_at, view, View, sign_piece, ◌>>=◌, operand_of, right_of, sum_of}
+use Rattle.small_module.specs.declared.piece.Piece.{Piece}
+use Rattle.small_module.specs.declared.piece.Piece.TheVariants as pieces
 use Rattle.small_text.specs.SmallForms.{is_number, number_value, place_at, SpellsOperand, spells_number, spells_local, SpellsSum, SpellsExpr, spells_operand, spells_plus, spells_minus}
 use Rattle.small_text.proofs.LineBits.{Operand, digits, word, Sum, alone, plus, minus, digits_value, operand_text, sum_bits, bits_text, at}
 use Rattle.small_text.proofs.SmallRows.{IsOperand, IsSum}

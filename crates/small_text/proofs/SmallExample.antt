@@ -6,8 +6,8 @@ use Rattle.py_syntax.specs.declared.PrintArg.TheVariants.{Value}
 use Rattle.py_syntax.specs.declared.Stmt.{Stmt}
 use Rattle.py_syntax.specs.declared.StmtForm.TheVariants.{Pass, Store, Check, Print}
 use Rattle.py_syntax.specs.declared.Module.{Module}
-use Rattle.py_front.specs.SmallTree.{number_at, local_at, sum_at, equation_at}
-use Rattle.py_front.specs.SmallModule.{main_module}
+use Rattle.small_module.specs.SmallTree.{number_at, local_at, sum_at, equation_at}
+use Rattle.small_module.specs.SmallModule.{main_module}
 use Rattle.py_front.specs.Answers.{IsFront}
 use Rattle.small_text.specs.TextLines.{is_skipped}
 use Rattle.small_text.specs.SmallForms.{is_number, number_value, is_name, is_reserved, place_at, stmt_at, SpellsOperand, spells_number, spells_local, SpellsExpr, spells_operand, spells_plus, spells_minus, SpellsStmt, spells_pass, spells_store, spells_check, spells_print}

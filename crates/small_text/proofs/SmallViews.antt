@@ -10,8 +10,8 @@ use Rattle.raw_syntax.specs.declared.RawArgument.TheVariants as arguments
 use Rattle.raw_syntax.specs.declared.Arithmetic.{Arithmetic}
 use Rattle.raw_syntax.specs.declared.Comparison.{Comparison}
 use Rattle.py_grammar.specs.ExprGrammar.{node, link}
-use Rattle.py_front.specs.SmallTree.{Link, Argument, value, name, chain, call, plain, View, view, link_of, argument_of, form_view, argument_view, link_view, seen_as, number_piece, name_piece, sign_piece}
-use Rattle.py_front.specs.declared.piece.Piece.TheVariants as pieces
+use Rattle.small_module.specs.SmallTree.{Link, Argument, value, name, chain, call, plain, View, view, link_of, argument_of, form_view, argument_view, link_view, seen_as, number_piece, name_piece, sign_piece}
+use Rattle.small_module.specs.declared.piece.Piece.TheVariants as pieces
 
 abbrev of_expr : RawExpr-F Argument (Place → View) Link View → View
 of_expr e = e.form e.place

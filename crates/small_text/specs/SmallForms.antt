@@ -9,8 +9,8 @@ use Rattle.py_syntax.specs.declared.PrintArg.TheVariants.{Value}
 use Rattle.py_syntax.specs.declared.Stmt.{Stmt}
 use Rattle.py_syntax.specs.declared.StmtForm.{StmtForm}
 use Rattle.py_syntax.specs.declared.StmtForm.TheVariants.{Pass, Store, Check, Print}
-use Rattle.py_front.specs.SmallTree.{is_known, local_number, with_name, number_at, local_at, sum_at, equation_at}
-use Rattle.py_front.specs.SmallModule.{statement}
+use Rattle.small_module.specs.SmallTree.{is_known, local_number, with_name, number_at, local_at, sum_at, equation_at}
+use Rattle.small_module.specs.SmallModule.{statement}
 
 abbrev pub is_digit : ℕ → Bool
 is_digit b = nat_le 48 b && nat_le b 57

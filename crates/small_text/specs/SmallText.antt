@@ -3,7 +3,7 @@
 use Rattle.std.specs.Prelude.{◌≡◌, ◌⊎◌, ◌+◌, ◌≤◌, ℕ, List, [], ◌∷◌, length, IsTrue, false, codes}
 use Rattle.py_syntax.specs.declared.Stmt.{Stmt}
 use Rattle.py_syntax.specs.declared.Module.{Module}
-use Rattle.py_front.specs.SmallModule.{main_module}
+use Rattle.small_module.specs.SmallModule.{main_module}
 use Rattle.small_text.specs.TextLines.{lines_of, is_skipped}
 use Rattle.small_text.specs.SmallForms.{place_at, SpellsStmt}
 

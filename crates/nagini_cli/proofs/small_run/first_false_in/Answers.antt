@@ -2,7 +2,7 @@ use Rattle.std.proofs.Common.{◌≡◌, ◌+◌, ◌<◌, ◌∙◌, sym, ap, �
 use Rattle.std.proofs.lemmas.List.{at_drop_more}
 use Rattle.py_syntax.specs.declared.Stmt.{Stmt, out-Stmt}
 use Rattle.nagini_cli.specs.SmallRun.{is_false, after, first_false_in}
-use Rattle.py_front.specs.SmallBody.{IsSmallStmt}
+use Rattle.small_module.specs.SmallBody.{IsSmallStmt}
 use Rattle.nagini_cli.proofs.Reach.{reach-last, reach-after}
 use Rattle.nagini_cli.proofs.small_run.first_false_in.Goals as goal
 

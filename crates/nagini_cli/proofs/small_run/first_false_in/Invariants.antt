@@ -1,6 +1,6 @@
 use Rattle.std.proofs.Common.{◌≡◌, drop}
 use Rattle.nagini_cli.specs.SmallRun.{first_false_in}
-use Rattle.py_front.specs.SmallBody.{AreWithin, reach}
+use Rattle.small_module.specs.SmallBody.{AreWithin, reach}
 use Rattle.nagini_cli.proofs.small_run.first_false_in.Given as goal
 
 abbrev pub invariant-loop-stmt : goal.invariant-loop-stmt

@@ -1,0 +1,4 @@
+pub mod SmallTree
+pub mod SmallModule
+pub mod SmallBody
+pub mod Spelled

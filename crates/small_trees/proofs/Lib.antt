@@ -1,0 +1,13 @@
+pub mod Opened
+pub mod Trees
+pub mod Sums
+pub mod Readings
+pub mod Building
+pub mod Names
+pub mod Exprs
+pub mod Typings
+pub mod Stmts
+pub mod StmtTypes
+pub mod Bodies
+pub mod Contracts
+pub mod Whole
