@@ -1,12 +1,11 @@
 -- Chains of comparisons, link by link.
-use Rattle.std.specs.Prelude.{◌≡◌, ℕ, ◌+◌, ◌<◌, ◌≤◌, Bool, true, false, if◌then◌else◌, List, [], ◌∷◌, map, drop, length, get_or}
+use Rattle.std.specs.Prelude.{◌≡◌, ℕ, ◌+◌, ◌<◌, ◌≤◌, true, List, [], ◌∷◌, map, drop, length, get_or}
 use Rattle.std.proofs.Common.{refl, ap, sym, subst, ◌∙◌}
 use Rattle.std.proofs.lemmas.List.{drop_more, drop_all}
 use Rattle.py_syntax.specs.declared.Value.{Value}
 use Rattle.py_syntax.specs.declared.Value.TheVariants.{Truth}
 use Rattle.py_syntax.specs.declared.Expr.{Expr}
-use Rattle.machine_model.specs.Operators.{binary}
-use Rattle.machine_model.specs.Evaluation.{Scene, Reading, Meaning, meaning, chain_from, defined, with_value, and_with, of_truth}
+use Rattle.machine_model.specs.Evaluation.{Scene, Reading, meaning, chain_from, defined}
 use Rattle.machine_values.specs.Bits.{has_128_bits}
 use Rattle.contract_reading.specs.declared.parts.Link.{Link}
 use Rattle.contract_reading.specs.Links.{behind, IsLink}

@@ -1,2 +1,6 @@
 mod Given
 mod Chained
+mod Behind
+mod Openings
+mod Marked
+mod Rooms

@@ -1,2 +1,5 @@
 pub mod Links
 pub mod Scenes
+pub mod Openings
+pub mod Verdicts
+pub mod Judges

@@ -1,5 +1,5 @@
 -- Links of chains of comparisons.
-use Rattle.std.specs.Prelude.{◌≡◌, ℕ, Bool, true, false, if◌then◌else◌}
+use Rattle.std.specs.Prelude.{◌≡◌, ℕ, false, if◌then◌else◌}
 use Rattle.py_syntax.specs.declared.Value.{Value}
 use Rattle.py_syntax.specs.declared.Value.TheVariants.{Truth}
 use Rattle.machine_model.specs.Operators.{binary}

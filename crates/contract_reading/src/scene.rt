@@ -1,5 +1,5 @@
 // What contracts are read in.
-ghost use Rattle.std.specs.Prelude.{◌≡◌, ◌<◌, ◌-◌, ◌^◌, length};
+ghost use Rattle.std.specs.Prelude.{◌≡◌, ◌<◌, ◌-◌, ◌^◌, None, length};
 ghost use Rattle.machine_model.specs.Moments.{scene_of};
 ghost use Rattle.contract_reading.specs.Scenes.{scene_in};
 
@@ -31,7 +31,8 @@ impl<'a> View<'a> {
         answer: Option<Value>,
     ) -> View<'a>
         requires few { length m.now.names < 2 ^ 32 - 1 }
-        ensures { scene_in result ≡ scene_of m.now heap.entry.now before.entry.now store.entry.now answer }
+        ensures scene { scene_in result ≡ scene_of m.now heap.entry.now before.entry.now store.entry.now answer }
+        ensures heap { result.heap.now ≡ heap.entry.now }
     {
         View {
             now: heap,
@@ -49,6 +50,18 @@ impl<'a> View<'a> {
     {
         View {
             now: self.before,
+            ..self
+        }
+    }
+
+    /// The same for the body of a predicate, which has these locals and no result.
+    pub fn within(self, store: &'a [Option<Value>]) -> View<'a>
+        ensures scene { scene_in result ≡ record (scene_in self.entry) { store = store.entry.now; answer = None } }
+        ensures heap { result.heap.now ≡ self.entry.heap.now }
+    {
+        View {
+            store,
+            answer: None,
             ..self
         }
     }

@@ -1,4 +1,4 @@
-use Rattle.std.proofs.Common.{rules, ◌≡◌, ◌+◌, ◌<◌, ◌≤◌, length, sym, ◌∙◌, arith}
+use Rattle.std.proofs.Common.{rules, ◌≤◌, length, sym, ◌∙◌}
 use Rattle.contract_reading.specs.Scenes.{scene_in, told}
 use Rattle.contract_reading.proofs.Chained.{without_keys, linked_end}
 use Rattle.contract_reading.proofs.evaluation.+evaluate.Goals as goal

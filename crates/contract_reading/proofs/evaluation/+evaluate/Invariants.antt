@@ -1,4 +1,4 @@
-use Rattle.std.proofs.Common.{◌≡◌, ◌+◌, ◌*◌, ◌-◌, ◌≤◌, ◌<◌, length, map, drop}
+use Rattle.std.proofs.Common.{◌≡◌, ◌+◌, ◌*◌, ◌-◌, ◌<◌, length, map, drop}
 use denote.Param.Weighed.{most}
 use Rattle.py_syntax.specs.declared.Expr.{size-Expr}
 use Rattle.machine_model.specs.Evaluation.{meaning, chain_from}

@@ -1,4 +1,3 @@
-use Rattle.std.proofs.Common.{◌≡◌}
 use Rattle.machine_model.specs.Operators as operators
 use Rattle.contract_reading.proofs.Given.{answered_no_test, answered_no_wait}
 use Rattle.contract_reading.proofs.parts.apply_binary.Goals as goal

@@ -1,4 +1,4 @@
-use Rattle.std.proofs.Common.{◌≡◌, sym}
+use Rattle.std.proofs.Common.{sym}
 use Rattle.machine_model.specs.Operators as operators
 use Rattle.contract_reading.proofs.Given.{truth_read}
 use Rattle.contract_reading.proofs.parts.compared.Goals as goal

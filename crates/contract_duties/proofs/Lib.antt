@@ -1,0 +1,5 @@
+mod Adding
+mod Lower
+mod Beside
+mod Bases
+mod Ended
