@@ -1,0 +1,13 @@
+mod Arguments
+mod Anyone
+mod Calling
+mod Comparing
+mod Depths
+mod Entrances
+mod Handling
+mod Inheritance
+mod Laid
+mod Landings
+mod Openings
+mod Releasing
+mod Unwinding

@@ -1,0 +1,11 @@
+pub mod Deeds
+pub mod Blocks
+pub mod Lines
+pub mod Links
+pub mod Ways
+pub mod Bounds
+pub mod Outcomes
+pub mod Handlers
+pub mod Tests
+pub mod Callers
+pub mod Entries
