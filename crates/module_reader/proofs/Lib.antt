@@ -1,0 +1,2 @@
+mod Assembling
+mod Cases

@@ -1,0 +1,4 @@
+pub mod Heads
+pub mod Statements
+pub mod Functions
+pub mod Modules
