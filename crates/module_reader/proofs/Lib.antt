@@ -1,2 +1,0 @@
-mod Assembling
-mod Cases

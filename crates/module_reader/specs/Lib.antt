@@ -1,4 +1,0 @@
-pub mod Heads
-pub mod Statements
-pub mod Functions
-pub mod Modules
