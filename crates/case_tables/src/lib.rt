@@ -11,6 +11,3 @@ pub use mark_table::marks;
 pub use operator_table::operators;
 pub use row::{BOOL, CaseRow, INT, NOTHING, REFERENCE};
 pub use table::Table;
-
-#[cfg(test)]
-mod tests;

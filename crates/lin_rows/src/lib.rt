@@ -24,6 +24,3 @@ pub use row::Row;
 pub use step::ComboStep;
 pub use terms::Terms;
 pub use wide::WidePoint;
-
-#[cfg(test)]
-mod tests;

@@ -24,6 +24,3 @@ pub use moved::Moved;
 pub use slots::Slots;
 pub use stack::Stack;
 pub use state::{Frame, LockState, Object, State, ThreadState};
-
-#[cfg(test)]
-mod tests;

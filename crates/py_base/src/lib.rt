@@ -12,6 +12,3 @@ pub use memory::OutOfMemory;
 pub use place::{Place, Span};
 pub use text::Text;
 pub use units::Units;
-
-#[cfg(test)]
-mod tests;

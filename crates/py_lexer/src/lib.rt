@@ -20,8 +20,3 @@ pub use cut::{CutText, text_pieces};
 pub use laws::each_text_has_tokens_or_a_fault;
 pub use places::{TextSpots, characters};
 pub use tokens::lex;
-
-#[cfg(test)]
-mod tests;
-#[cfg(test)]
-mod tests_of_lex;

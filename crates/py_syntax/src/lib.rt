@@ -20,6 +20,3 @@ pub use module::{Class, ClassSort, Field, Method, Module, Pred};
 pub use stmt::{FieldName, Operator, PrintArg, Stmt, StmtForm};
 pub use ty::Ty;
 pub use value::Value;
-
-#[cfg(test)]
-mod tests;

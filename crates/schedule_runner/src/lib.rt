@@ -17,10 +17,6 @@ pub use ending::{RunEnd, RunFault};
 pub use fault::ScheduleFault;
 pub use laws::a_text_reads_or_has_a_bad_line;
 pub use reader::read_schedule;
+pub use running::unfinished;
 pub use schedule::{STEP_LIMIT, Schedule, ScheduleLine};
 pub use under_schedule::run;
-
-#[cfg(test)]
-mod run_tests;
-#[cfg(test)]
-mod tests;

@@ -18,6 +18,3 @@ pub use linear::Linear;
 pub use literal::Literal;
 pub use normal_form::normal;
 pub use term::Term;
-
-#[cfg(test)]
-mod tests;

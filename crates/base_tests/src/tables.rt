@@ -1,5 +1,5 @@
 // What no clause says: that rows are found, for the keys that the language gives them.
-use super::*;
+use case_tables::{BOOL, CaseRow, INT, Table, marks, operators};
 
 #[test]
 fn each_operator_has_a_row(rt: HostRuntime) {

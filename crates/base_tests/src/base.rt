@@ -1,5 +1,5 @@
 // What no clause says: that calls succeed, and that the texts are those that a reader expects.
-use super::*;
+use py_base::{Kind, Place, Text, Units};
 use std::test::Fail;
 
 #[test]

@@ -1,5 +1,5 @@
 // What no clause says: that the calls succeed, with values from outside.
-use super::*;
+use machine_model::{Fields, Stack, State, start};
 use py_base::Place;
 use py_syntax::{Expr, ExprForm, Method, Module, PrintArg, Stmt, StmtForm, Ty, Value};
 use sqlite_items::{Boxed, Items};

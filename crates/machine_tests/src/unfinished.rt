@@ -1,6 +1,6 @@
 // What is told of a run that ends before its threads.
-use crate::running::unfinished;
 use machine_model::{Stack, ThreadState};
+use schedule_runner::unfinished;
 use std::alloc::Global;
 use std::test::Fail;
 

@@ -1,6 +1,8 @@
 // What no clause says: that a copy succeeds, and that it is written as what it copies.
-use super::*;
 use py_base::{Place, Text, Units};
+use py_syntax::{
+    Assertion, AtomForm, Expr, ExprForm, Instance, PrintArg, Stmt, StmtForm, Ty, Value,
+};
 use sqlite_items::{Boxed, Items};
 use std::alloc::{AllocError, Global};
 use std::test::Fail;

@@ -1,5 +1,5 @@
 // What no clause says: that texts are read at all, with values from the rules of the schedule text.
-use super::*;
+use schedule_runner::{ScheduleFault, ScheduleLine, read_schedule};
 use std::test::Fail;
 
 #[test]

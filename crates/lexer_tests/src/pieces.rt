@@ -1,7 +1,7 @@
 // What no clause says: that calls succeed, and that the places and pieces are those that a reader
 // expects.
-use super::*;
 use py_base::Place;
+use py_lexer::{CutText, characters, text_pieces};
 use py_tokens::{LexFault, Piece, Shape, TokenForm};
 use std::alloc::Global;
 use std::test::Fail;

@@ -1,5 +1,5 @@
 // What no clause says: that calls succeed, at numbers near the ends of 128 bits too.
-use super::*;
+use lin_rows::{Row, RowFault, Terms, combine, eliminate};
 use std::alloc::Global;
 use std::test::Fail;
 

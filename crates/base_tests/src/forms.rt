@@ -1,10 +1,10 @@
 // What no clause says: that calls succeed, at numbers near the ends of 128 bits too.
-use super::*;
 use lin_rows::RowFault;
 use py_base::OutOfMemory;
 use sqlite_items::{Boxed, Items};
 use std::alloc::Global;
 use std::test::Fail;
+use terms::{Literal, Term, normal};
 
 const MIN: i128 = i128::MIN;
 

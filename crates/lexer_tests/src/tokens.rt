@@ -1,7 +1,7 @@
 // The tokens of whole texts, as CPython's tokenizer has them where the two agree, and the first
 // faults, worked out by hand.
-use super::*;
 use py_base::Place;
+use py_lexer::lex;
 use py_tokens::{LexFault, Token, TokenForm};
 use std::alloc::Global;
 use std::test::Fail;
