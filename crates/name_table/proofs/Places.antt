@@ -1,10 +1,10 @@
 -- The first place of a name in a list that grows.
-use Rattle.std.proofs.Common.{ℕ, ◌≡◌, ◌≤◌, ◌+◌, ◌++◌, ◌||◌, not, List, [], ◌∷◌, length, Option, Some, None, Bool, true, false, cond, nat_lt, position, bytes_eq, arith, refl, sym, ap, subst, ◌∙◌, is_some, true≢false}
+use Rattle.std.proofs.Common.{ℕ, ◌≡◌, ◌≤◌, ◌+◌, ◌++◌, ◌||◌, not, List, [], ◌∷◌, length, Option, Some, None, Bool, true, false, cond, nat_lt, position, bytes_eq, arith, refl, sym, ap, subst, ◌∙◌, is_some, true≢false, IfSome, ◌<◌}
 use Rattle.std.specs.List.{position_or_len, list_any, position_from}
 use Rattle.std.specs.Option.{unwrap_or}
 use Rattle.std.specs.Cmp.Lexicographic.{bytes_decides}
 use Rattle.std.specs.Map.{lookup}
-use Rattle.std.proofs.lemmas.Bool.{ltb-false}
+use Rattle.std.proofs.lemmas.Bool.{ltb-false, ltb-true}
 use Rattle.std.proofs.lemmas.Iterator.Adapters.{position_from-zero}
 use Rattle.std.proofs.lemmas.List.Sums.{prefix_len-le-length}
 use Rattle.name_table.specs.Names.{place_or}
@@ -57,3 +57,18 @@ kept place name n next h = kept_by (place n) (bytes_eq n name) next (λ e. subst
 pub none_at : {X : Type 0} (r : Option X) → false ≡ is_some r → r ≡ None
 none_at None e = refl
 none_at (Some x) e = absurd (true≢false (sym e))
+
+within_at : (b : Bool) (i len : ℕ) → b ≡ nat_lt i len → IfSome (cond b (Some i) None) (λ at. at < len)
+within_at true i len e = ltb-true i len (sym e)
+within_at false i len e = tt
+
+pub within : {X : Type 0} (p : X → Bool) (xs ys : List X) (r : Option ℕ) → r ≡ position p xs → xs ≡ ys → IfSome r (λ at. at < length ys)
+within p xs ys r e same =
+    subst (λ zs. IfSome r (λ at. at < length zs)) same
+    (subst (λ q. IfSome q (λ at. at < length xs)) (sym e) (within_at (nat_lt (position_or_len p xs) (length xs)) (position_or_len p xs) (length xs) refl))
+
+-- the place of each name, once one more is pushed
+pub pushed : (name n key : List ℕ) (list now : List (List ℕ)) (before old new : Option ℕ) (place : ℕ) → old ≡ position (bytes_eq n) list → before ≡ old → key ≡ name → place ≡ length list
+    → now ≡ list ++ name ∷ [] → new ≡ place_or before (bytes_eq n key) place → new ≡ position (bytes_eq n) now
+pushed name n key list now before old new place e1 e0 e2 e3 e4 e5 =
+    e5 ∙ (λ i. place_or ((e0 ∙ e1) i) (bytes_eq n (e2 i)) (e3 i)) ∙ sym (position_push (bytes_eq n) list name) ∙ ap (position (bytes_eq n)) (sym e4)

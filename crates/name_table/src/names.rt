@@ -11,7 +11,7 @@ use std::alloc::Global;
 use std::marker::Model;
 
 /// Names in their order, each with the first of its places. Contracts see the list of the names.
-#[derive(Drop)]
+#[derive(Debug, Drop)]
 pub struct Names {
     list: Items<Text>,
     places: IndexMap<Vec<u8>, usize>,
