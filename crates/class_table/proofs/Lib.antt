@@ -1,4 +1,3 @@
-pub mod Positions
 pub mod Chains
 mod Examples
 pub mod Firsts

@@ -15,18 +15,18 @@ use crate::name_list::all_names;
 use crate::naming::class_names;
 use crate::outline::Table;
 use crate::rows::{all_rows, locks};
-use py_base::{OutOfMemory, Text};
+use name_table::Names;
+use py_base::OutOfMemory;
 use raw_syntax::{Raw, RawItem};
-use sqlite_items::Items;
 use std::alloc::Global;
 
-fn table_over(alloc: Global, names: Items<Text>, items: &[RawItem]) -> Result<Table, OutOfMemory>
+fn table_over(alloc: Global, names: Names, items: &[RawItem]) -> Result<Table, OutOfMemory>
     requires { length names < 2 ^ 32 }
     ensures { IfOk result (λ t. t ≡ table_over names items.now) }
 {
-    let rows = all_rows(alloc, names.as_slice(), items)?;
-    let locks = locks(alloc, names.as_slice(), rows.as_slice(), items)?;
-    let declared = all_declared(alloc, names.as_slice(), rows.as_slice(), items)?;
+    let rows = all_rows(alloc, &names, items)?;
+    let locks = locks(alloc, &names, rows.as_slice(), items)?;
+    let declared = all_declared(alloc, &names, rows.as_slice(), items)?;
     Ok(Table {
         names,
         rows,
@@ -46,9 +46,13 @@ fn classes_with(alloc: Global, table: &Table, items: &[RawItem]) -> Result<Class
     ensures { IfOk result (λ classes. classes ≡ classes_with table.now items.now) }
 {
     let names = all_names(alloc, table, items)?;
-    let list = all_classes(alloc, table, names.as_slice(), items)?;
+    let list = all_classes(alloc, table, &names, items)?;
     let main = main_number(items)?;
-    Ok(Classes { names, list, main })
+    Ok(Classes {
+        names: names.into_list(),
+        list,
+        main,
+    })
 }
 
 // The classes, or the first fault.

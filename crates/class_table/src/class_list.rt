@@ -7,7 +7,8 @@ use crate::name_list::{as_number, name_number};
 use crate::outline::{Declared, Table};
 use crate::rows::{base_of, is_exception};
 use crate::scope::declared_by;
-use py_base::{OutOfMemory, Place, Text};
+use name_table::Names;
+use py_base::{OutOfMemory, Place};
 use py_syntax::{Class, ClassSort, Field};
 use raw_syntax::{RawClass, RawFunc, RawItem};
 use sqlite_items::Items;
@@ -84,7 +85,7 @@ fn numbers_from(alloc: Global, start: usize, count: usize) -> Result<Items<u32>,
 }
 
 #[tactic(auto, unfolding(crate::specs::ClassList::field_entry))]
-fn add_field(names: &[Text], fields: &mut Items<Field>, d: &Declared) -> Result<(), OutOfMemory>
+fn add_field(names: &Names, fields: &mut Items<Field>, d: &Declared) -> Result<(), OutOfMemory>
     ensures { OnOk result (fields.new ≡ fields.old ++ field_entry names.now d.now) }
 {
     let Some(ty) = d.field else {
@@ -97,7 +98,7 @@ fn add_field(names: &[Text], fields: &mut Items<Field>, d: &Declared) -> Result<
 
 fn fields_of(
     alloc: Global,
-    names: &[Text],
+    names: &Names,
     declared: &[Declared],
 ) -> Result<Items<Field>, OutOfMemory>
     ensures { IfOk result (λ fields. fields ≡ class_fields names.now [] declared.now) }
@@ -134,7 +135,7 @@ fn sort_of(table: &Table, number: usize, predicates: usize) -> Result<ClassSort,
 fn class_at(
     alloc: Global,
     table: &Table,
-    names: &[Text],
+    names: &Names,
     number: usize,
     methods: usize,
     predicates: usize,
@@ -170,7 +171,7 @@ fn exception_class(alloc: Global) -> Class
 pub fn all_classes(
     alloc: Global,
     table: &Table,
-    names: &[Text],
+    names: &Names,
     items: &[RawItem],
 ) -> Result<Items<Class>, OutOfMemory>
     ensures { IfOk result (λ list. list ≡ classes_behind table.now names.now 0 0 (exception_class ∷ []) items.now) }

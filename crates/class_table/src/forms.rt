@@ -47,7 +47,7 @@ fn is_lock_base(table: &Table, base: &RawTy) -> bool
     requires { length table.now.names < 2 ^ 32 }
     ensures { result ≡ is_some (locked_class table.now.names table.now.rows base.now) }
 {
-    locked_class(table.names.as_slice(), table.rows.as_slice(), base).is_some()
+    locked_class(&table.names, table.rows.as_slice(), base).is_some()
 }
 
 /// Adds the fault of the base of a class.
@@ -66,7 +66,7 @@ pub fn note_base(
     if is_lock_base(table, ty) {
         return Ok(());
     }
-    let named = named_base(table.names.as_slice(), ty);
+    let named = named_base(&table.names, ty);
     note_named(found, table, number, ty.place, named)
 }
 

@@ -8,6 +8,7 @@ use crate::outline::{Declared, Heritage};
 use crate::rows::{is_init, needs_super};
 use crate::shape::{calls_super_init, is_contract, is_string, self_field};
 use crate::values::{is_free, is_plain, type_of, value_type};
+use name_table::Names;
 use py_base::{OutOfMemory, Place, Text};
 use py_syntax::Ty;
 use raw_syntax::{RawClass, RawExpr, RawFunc, RawItem, RawParam, RawStmt, RawStmtForm, RawTy};
@@ -111,7 +112,7 @@ fn field_at(alloc: Global, ty: Ty, target: &RawExpr) -> Result<Option<Declared>,
 
 fn declared_field(
     alloc: Global,
-    names: &[Text],
+    names: &Names,
     rows: &[Heritage],
     target: &RawExpr,
     ty: &RawTy,
@@ -128,7 +129,7 @@ fn declared_field(
 
 fn assigned_field(
     alloc: Global,
-    names: &[Text],
+    names: &Names,
     rows: &[Heritage],
     params: &[RawParam],
     target: &RawExpr,
@@ -146,7 +147,7 @@ fn assigned_field(
 // The field that a statement makes.
 fn field_of(
     alloc: Global,
-    names: &[Text],
+    names: &Names,
     rows: &[Heritage],
     params: &[RawParam],
     s: &RawStmt,
@@ -185,7 +186,7 @@ fn new_field(before: &[Declared], field: Option<Declared>) -> Option<Declared>
 // The fields that the longest run of such assignments makes.
 fn fields_of(
     alloc: Global,
-    names: &[Text],
+    names: &Names,
     rows: &[Heritage],
     params: &[RawParam],
     body: &[RawStmt],
@@ -217,7 +218,7 @@ fn method_at(alloc: Global, method: &RawFunc) -> Result<Declared, OutOfMemory>
 // Adds a method, and the fields that it makes.
 fn add_member(
     alloc: Global,
-    names: &[Text],
+    names: &Names,
     rows: &[Heritage],
     needed: bool,
     declared: &mut Items<Declared>,
@@ -236,7 +237,7 @@ fn add_member(
 
 fn class_declares(
     alloc: Global,
-    names: &[Text],
+    names: &Names,
     rows: &[Heritage],
     number: usize,
     class: &RawClass,
@@ -255,7 +256,7 @@ fn class_declares(
 /// What each class declares, by its number.
 pub fn all_declared(
     alloc: Global,
-    names: &[Text],
+    names: &Names,
     rows: &[Heritage],
     items: &[RawItem],
 ) -> Result<Items<Items<Declared>>, OutOfMemory>

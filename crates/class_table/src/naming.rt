@@ -3,21 +3,13 @@ ghost use Rattle.std.specs.Prelude.{◌≡◌, ◌<◌, ◌^◌, length, bytes_e
 ghost use Rattle.class_table.specs.Bases.{class_name, class_names, class_named};
 
 use crate::names::is_built_in;
-use py_base::{OutOfMemory, Text};
+use name_table::Names;
+use py_base::OutOfMemory;
 use raw_syntax::RawItem;
-use sqlite_items::Items;
 use std::alloc::Global;
 
-/// The place of a name among these.
-pub fn position_of(names: &[Text], name: &[u8]) -> Option<usize>
-    ensures at { result ≡ position (bytes_eq name.now) names.now }
-    ensures within { IfSome result (λ at. at < length names.now) }
-{
-    names.iter().position(|known| name == known.bytes())
-}
-
 /// The class that a name means.
-pub fn class_named(names: &[Text], name: &[u8]) -> Option<u32>
+pub fn class_named(names: &Names, name: &[u8]) -> Option<u32>
     requires { length names.now < 2 ^ 32 }
     ensures { result ≡ class_named names.now name.now }
 {
@@ -27,28 +19,28 @@ pub fn class_named(names: &[Text], name: &[u8]) -> Option<u32>
     if is_built_in(name) {
         return None;
     }
-    match position_of(names, name) {
+    match names.position(name) {
         Some(at) => Some(at as u32),
         None => None,
     }
 }
 
-fn add_class_name(alloc: Global, names: &mut Items<Text>, item: &RawItem) -> Result<(), OutOfMemory>
+fn add_class_name(alloc: Global, names: &mut Names, item: &RawItem) -> Result<(), OutOfMemory>
     ensures { OnOk result (names.new ≡ names.old ++ class_name item.now) }
 {
     match item {
-        RawItem::Class(class) => names.push(class.name.copy(alloc)?)?,
+        RawItem::Class(class) => names.push(alloc, class.name.bytes())?,
         RawItem::Func(_) => {}
     }
     Ok(())
 }
 
 /// The names of the classes, by their numbers.
-pub fn class_names(alloc: Global, items: &[RawItem]) -> Result<Items<Text>, OutOfMemory>
+pub fn class_names(alloc: Global, items: &[RawItem]) -> Result<Names, OutOfMemory>
     ensures { IfOk result (λ names. names ≡ class_names items.now) }
 {
-    let mut names = Items::new(alloc);
-    names.push(Text::of(b"Exception".to_vec(alloc)?))?;
+    let mut names = Names::new(alloc);
+    names.push(alloc, b"Exception")?;
     'items: for item in items {
         add_class_name(alloc, &mut names, item)?;
     }

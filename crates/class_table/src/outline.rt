@@ -1,4 +1,5 @@
 // What is noted of the classes of a text, by their numbers.
+use name_table::Names;
 use py_base::{Place, Text};
 use py_syntax::Ty;
 use sqlite_items::Items;
@@ -24,7 +25,7 @@ pub struct Declared {
 /// what each class declares.
 #[derive(Debug, Drop)]
 pub struct Table {
-    pub names: Items<Text>,
+    pub names: Names,
     pub rows: Items<Heritage>,
     pub locks: Items<Option<u32>>,
     pub declared: Items<Items<Declared>>,

@@ -6,13 +6,14 @@ ghost use Rattle.class_table.specs.Bases.{named_base, earlier, base_in, base_of,
 
 use crate::naming::class_named;
 use crate::outline::Heritage;
-use py_base::{OutOfMemory, Text};
+use name_table::Names;
+use py_base::OutOfMemory;
 use raw_syntax::{RawClass, RawFunc, RawItem, RawTy};
 use sqlite_items::Items;
 use std::alloc::Global;
 
 /// The class that a base names.
-pub fn named_base(names: &[Text], ty: &RawTy) -> Option<u32>
+pub fn named_base(names: &Names, ty: &RawTy) -> Option<u32>
     requires { length names.now < 2 ^ 32 }
     ensures { result ≡ named_base names.now ty.now }
 {
@@ -36,7 +37,7 @@ fn earlier(count: usize, class: Option<u32>) -> Option<u32>
     }
 }
 
-fn base_in(names: &[Text], count: usize, base: &Option<RawTy>) -> Option<u32>
+fn base_in(names: &Names, count: usize, base: &Option<RawTy>) -> Option<u32>
     requires { length names.now < 2 ^ 32 }
     ensures { result ≡ base_in names.now count base.now }
 {
@@ -130,7 +131,7 @@ fn row_over(rows: &[Heritage], own: bool, base: Option<u32>) -> Heritage
     }
 }
 
-fn row_of(names: &[Text], rows: &[Heritage], class: &RawClass) -> Heritage
+fn row_of(names: &Names, rows: &[Heritage], class: &RawClass) -> Heritage
     requires { length names.now < 2 ^ 32 }
     ensures { result ≡ row_of names.now rows.now class.now }
 {
@@ -141,7 +142,7 @@ fn row_of(names: &[Text], rows: &[Heritage], class: &RawClass) -> Heritage
 /// What each class has from above, by its number.
 pub fn all_rows(
     alloc: Global,
-    names: &[Text],
+    names: &Names,
     items: &[RawItem],
 ) -> Result<Items<Heritage>, OutOfMemory>
     requires { length names.now < 2 ^ 32 }
@@ -163,7 +164,7 @@ pub fn all_rows(
 }
 
 /// The class of objects that a name means.
-pub fn object_class(names: &[Text], rows: &[Heritage], name: &[u8]) -> Option<u32>
+pub fn object_class(names: &Names, rows: &[Heritage], name: &[u8]) -> Option<u32>
     requires { length names.now < 2 ^ 32 }
     ensures { result ≡ object_class names.now rows.now name.now }
 {
@@ -175,7 +176,7 @@ pub fn object_class(names: &[Text], rows: &[Heritage], name: &[u8]) -> Option<u3
 }
 
 /// The class that a lock class locks, by its base.
-pub fn locked_class(names: &[Text], rows: &[Heritage], ty: &RawTy) -> Option<u32>
+pub fn locked_class(names: &Names, rows: &[Heritage], ty: &RawTy) -> Option<u32>
     requires { length names.now < 2 ^ 32 }
     ensures { result ≡ locked_class names.now rows.now ty.now }
 {
@@ -188,7 +189,7 @@ pub fn locked_class(names: &[Text], rows: &[Heritage], ty: &RawTy) -> Option<u32
     }
 }
 
-fn lock_by(names: &[Text], rows: &[Heritage], base: &Option<RawTy>) -> Option<u32>
+fn lock_by(names: &Names, rows: &[Heritage], base: &Option<RawTy>) -> Option<u32>
     requires { length names.now < 2 ^ 32 }
     ensures { result ≡ option_and_then (locked_class names.now rows.now) base.now }
 {
@@ -199,7 +200,7 @@ fn lock_by(names: &[Text], rows: &[Heritage], base: &Option<RawTy>) -> Option<u3
 }
 
 fn add_lock(
-    names: &[Text],
+    names: &Names,
     rows: &[Heritage],
     locks: &mut Items<Option<u32>>,
     item: &RawItem,
@@ -217,7 +218,7 @@ fn add_lock(
 /// For each class the class that it locks, where it is a lock class.
 pub fn locks(
     alloc: Global,
-    names: &[Text],
+    names: &Names,
     rows: &[Heritage],
     items: &[RawItem],
 ) -> Result<Items<Option<u32>>, OutOfMemory>

@@ -5,7 +5,7 @@ ghost use Rattle.class_table.specs.Values.{object_type, optional_type, type_name
 
 use crate::outline::Heritage;
 use crate::rows::object_class;
-use py_base::Text;
+use name_table::Names;
 use py_syntax::Ty;
 use raw_syntax::{Arithmetic, RawComparison, RawExpr, RawExprForm, RawParam, RawTy};
 use sqlite_items::Items;
@@ -28,7 +28,7 @@ fn optional_type(class: Option<u32>) -> Ty
     }
 }
 
-fn type_named(names: &[Text], rows: &[Heritage], name: &[u8]) -> Ty
+fn type_named(names: &Names, rows: &[Heritage], name: &[u8]) -> Ty
     requires { length names.now < 2 ^ 32 }
     ensures { result ≡ type_named names.now rows.now name.now }
 {
@@ -44,7 +44,7 @@ fn type_named(names: &[Text], rows: &[Heritage], name: &[u8]) -> Ty
     object_type(object_class(names, rows, name))
 }
 
-fn type_within(names: &[Text], rows: &[Heritage], name: &[u8], inner: &[u8]) -> Ty
+fn type_within(names: &Names, rows: &[Heritage], name: &[u8], inner: &[u8]) -> Ty
     requires { length names.now < 2 ^ 32 }
     ensures { result ≡ type_within names.now rows.now name.now inner.now }
 {
@@ -55,7 +55,7 @@ fn type_within(names: &[Text], rows: &[Heritage], name: &[u8], inner: &[u8]) -> 
 }
 
 /// What an annotation means, and `Void` where it is no type of a value.
-pub fn type_of(names: &[Text], rows: &[Heritage], ty: &RawTy) -> Ty
+pub fn type_of(names: &Names, rows: &[Heritage], ty: &RawTy) -> Ty
     requires { length names.now < 2 ^ 32 }
     ensures { result ≡ type_of names.now rows.now ty.now }
 {
@@ -77,7 +77,7 @@ fn find_parameter<'a>(params: &'a [RawParam], name: &[u8]) -> Option<&'a RawPara
     params.iter().find(|param| name == param.name.bytes())
 }
 
-fn parameter_type(names: &[Text], rows: &[Heritage], params: &[RawParam], name: &[u8]) -> Ty
+fn parameter_type(names: &Names, rows: &[Heritage], params: &[RawParam], name: &[u8]) -> Ty
     requires { length names.now < 2 ^ 32 }
     ensures { result ≡ parameter_type names.now rows.now params.now name.now }
 {
@@ -184,7 +184,7 @@ fn result_of(operator: Arithmetic) -> Ty
 }
 
 /// The type of a value that is made of literals, parameters and operators.
-pub fn value_type(e: &RawExpr, names: &[Text], rows: &[Heritage], params: &[RawParam]) -> Ty
+pub fn value_type(e: &RawExpr, names: &Names, rows: &[Heritage], params: &[RawParam]) -> Ty
     requires { length names.now < 2 ^ 32 }
     ensures { result ≡ value_type names.now rows.now params.now e.now }
 {
