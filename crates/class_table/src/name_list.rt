@@ -9,11 +9,7 @@ use py_base::OutOfMemory;
 use raw_syntax::RawItem;
 use std::alloc::Global;
 
-fn add_declared(
-    alloc: Global,
-    names: &mut Names,
-    declared: &[Declared],
-) -> Result<(), OutOfMemory>
+fn add_declared(alloc: Global, names: &mut Names, declared: &[Declared]) -> Result<(), OutOfMemory>
     ensures { OnOk result (names.new ≡ with_declared names.old declared.now) }
 {
     'declared: for d in declared {
