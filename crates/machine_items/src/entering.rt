@@ -47,7 +47,8 @@ fn copy_object(object: &Object) -> Result<Object, OutOfMemory>
     })
 }
 
-fn copy_heap(alloc: Global, heap: &[Object]) -> Result<Items<Object>, OutOfMemory>
+/// An equal heap.
+pub fn copy_heap(alloc: Global, heap: &[Object]) -> Result<Items<Object>, OutOfMemory>
     ensures { IfOk result (λ copy. copy ≡ heap.now) }
 {
     let mut copy = Items::new(alloc);
@@ -80,8 +81,8 @@ fn given(alloc: Global, args: &[Value]) -> Result<Items<Option<Value>>, OutOfMem
     Ok(store)
 }
 
-// The frame of a method as it is entered.
-fn entered(
+/// The frame of a method as it is entered.
+pub fn entered(
     alloc: Global,
     number: u32,
     method: &Method,

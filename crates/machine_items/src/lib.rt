@@ -19,12 +19,15 @@ mod ways_out;
 
 pub use choices::{branch, decide, link, turn};
 pub use classes::{base_of, is_subclass, lookup};
-pub use entering::{Duties, Entry, enter};
-pub use fields::{locked, read_field, write_back, write_under};
+pub use control::{expr_then, open_below};
+pub use entering::{Duties, Entry, copy_heap, enter, entered};
+pub use fields::{locked, read_field, receiver_at, write_back, write_under};
+pub use going::{changing, dropping, pushing};
 pub use leaving::{Outcome, end_finally, end_try, enter_try, go_out, handle, return_value};
+pub use lists::{copy_assertions, copy_block};
 pub use locks::{acquire, owns, release, take_with};
 pub use moment::Moment;
-pub use printing::print;
+pub use printing::{print, top_values};
 pub use returning::{awaited, return_to};
 pub use straight::{
     apply_binary, apply_unary, check, drop_value, load, pass, push, store, test_not_nil,

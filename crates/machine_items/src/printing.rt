@@ -45,9 +45,9 @@ fn values_wanted(args: &[PrintArg]) -> usize
     count
 }
 
+/// The topmost values, so many, the lowest one on top.
 #[tactic(auto, using(crate::proofs::Arguments::pop_more, crate::proofs::Arguments::pop_fails))]
-// The topmost values, so many, the lowest one on top.
-fn top_values(alloc: Global, count: usize, stack: &Stack<Value>) -> Result<Stack<Value>, Stop>
+pub fn top_values(alloc: Global, count: usize, stack: &Stack<Value>) -> Result<Stack<Value>, Stop>
     ensures { Agrees (pop_arguments count stack.now) result (λ values. (values, drop count stack.now)) }
 {
     let mut values = Stack::new(alloc);
