@@ -7,7 +7,7 @@ mod Entrances
 mod Handling
 mod Inheritance
 mod Laid
-mod Landings
+pub mod Landings
 mod Openings
 mod Releasing
 mod Unwinding

@@ -115,8 +115,8 @@ pub fn take_with(
     })
 }
 
-// The caps without the one for a lock.
-fn caps_without(
+/// The caps without the one for a lock.
+pub fn caps_without(
     alloc: Global,
     lock: u32,
     caps: &[(u32, i128)],
@@ -132,9 +132,9 @@ fn caps_without(
     Ok(left)
 }
 
-// A lock that the thread has given back. Only its holder may, and then its invariant is tested.
+/// A lock that the thread has given back. Only its holder may, and then its invariant is tested.
 #[tactic(auto, using(crate::proofs::Releasing::released_is))]
-fn released(
+pub fn released(
     _m: &Module,
     heap: &[Object],
     thread: u32,

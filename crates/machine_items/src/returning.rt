@@ -43,8 +43,8 @@ fn given_back(gives: Gives<Value>, value: Value) -> Gain
     }
 }
 
-// The caps that stay once a call has ended: those for locks that the thread owns.
-fn kept_caps(
+/// The caps that stay once a call has ended: those for locks that the thread owns.
+pub fn kept_caps(
     alloc: Global,
     heap: &[Object],
     thread: u32,
