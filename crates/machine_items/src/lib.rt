@@ -22,7 +22,7 @@ pub use classes::{base_of, is_subclass, lookup};
 pub use control::{expr_then, open_below};
 pub use entering::{Duties, Entry, copy_heap, enter, entered};
 pub use fields::{locked, read_field, receiver_at, write_back, write_under};
-pub use going::{changing, dropping, going, pushing};
+pub use going::{changing, dropping, pushing};
 pub use leaving::{Outcome, end_finally, end_try, enter_try, go_out, handle, return_value};
 pub use lists::{copy_assertions, copy_block};
 pub use locks::{acquire, caps_without, owns, release, released, take_with};
